@@ -1,0 +1,4 @@
+pub mod SpaceUses
+pub mod Area
+pub mod Scanning
+pub mod RunUses

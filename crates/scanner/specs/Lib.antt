@@ -1,0 +1,5 @@
+pub mod Classes
+pub mod Failures
+pub mod Scan
+pub mod Spaces
+pub mod Runs

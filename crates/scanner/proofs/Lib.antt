@@ -2,3 +2,4 @@ pub mod SpaceUses
 pub mod Area
 pub mod Scanning
 pub mod RunUses
+pub mod NumberUses

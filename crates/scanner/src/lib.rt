@@ -1,8 +1,13 @@
 mod class;
+mod digits;
 mod failure;
+mod integers;
 mod kinds;
+mod radix;
+mod reals;
 mod runs;
 mod spaces;
+mod words;
 
 pub use failure::Failure;
 pub use kinds::Kind;

@@ -3,3 +3,4 @@ pub mod Area
 pub mod Scanning
 pub mod RunUses
 pub mod NumberUses
+pub mod PieceUses

@@ -6,3 +6,5 @@ pub mod Runs
 pub mod Digits
 pub mod Capped
 pub mod Numbers
+pub mod Takes
+pub mod Pieces

@@ -1,8 +1,10 @@
+mod bytes;
 mod class;
 mod digits;
 mod failure;
 mod integers;
 mod kinds;
+mod pieces;
 mod radix;
 mod reals;
 mod runs;

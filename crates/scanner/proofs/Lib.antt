@@ -4,3 +4,4 @@ pub mod Scanning
 pub mod RunUses
 pub mod NumberUses
 pub mod PieceUses
+pub mod StringUses

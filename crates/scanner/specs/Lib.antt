@@ -8,3 +8,4 @@ pub mod Capped
 pub mod Numbers
 pub mod Takes
 pub mod Pieces
+pub mod Strings

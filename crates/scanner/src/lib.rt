@@ -9,6 +9,7 @@ mod radix;
 mod reals;
 mod runs;
 mod spaces;
+mod strings;
 mod words;
 
 pub use failure::Failure;

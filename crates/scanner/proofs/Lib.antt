@@ -5,3 +5,4 @@ pub mod RunUses
 pub mod NumberUses
 pub mod PieceUses
 pub mod StringUses
+pub mod HexUses

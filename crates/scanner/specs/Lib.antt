@@ -9,3 +9,4 @@ pub mod Numbers
 pub mod Takes
 pub mod Pieces
 pub mod Strings
+pub mod HexStrings

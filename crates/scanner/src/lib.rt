@@ -2,6 +2,7 @@ mod bytes;
 mod class;
 mod digits;
 mod failure;
+mod hex;
 mod integers;
 mod kinds;
 mod pieces;

@@ -6,3 +6,5 @@ pub mod NumberUses
 pub mod PieceUses
 pub mod StringUses
 pub mod HexUses
+pub mod Steadiness
+pub mod TokenUses

@@ -10,3 +10,5 @@ pub mod Takes
 pub mod Pieces
 pub mod Strings
 pub mod HexStrings
+pub mod Plain
+pub mod Tokens

@@ -1,3 +1,6 @@
+ghost use mathlib.Core.Path.{_≡_};
+ghost use Rattle.scanner.specs.Plain.{plain};
+
 // What a token is.
 #[derive(Clone, Copy)]
 pub enum Kind {
@@ -36,4 +39,13 @@ pub struct Token {
     pub kind: Kind,
     pub value: i32,
     pub n: usize,
+}
+
+impl Token {
+    // A token that is no integer.
+    pub(crate) fn plain(kind: Kind, n: usize) -> Token
+        ensures { λ r. ⌜ r ≡ plain kind n ⌝ }
+    {
+        Token { kind, value: 0, n }
+    }
 }

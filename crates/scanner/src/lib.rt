@@ -11,8 +11,10 @@ mod reals;
 mod runs;
 mod spaces;
 mod strings;
+mod tokens;
 mod words;
 
 pub use failure::Failure;
 pub use kinds::Kind;
 pub use kinds::Token;
+pub use tokens::read_token;

@@ -8,3 +8,7 @@ pub mod StringUses
 pub mod HexUses
 pub mod Steadiness
 pub mod TokenUses
+pub mod RunLawful
+pub mod StringLawful
+pub mod FigureLawful
+pub mod Worked

@@ -12,3 +12,8 @@ pub mod Strings
 pub mod HexStrings
 pub mod Plain
 pub mod Tokens
+pub mod RunLaw
+pub mod StringLaw
+pub mod FigureLaw
+pub mod TokenLaws
+pub mod Examples

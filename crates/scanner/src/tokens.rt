@@ -3,6 +3,8 @@ ghost use Prim.Native.Nat.{_≤_};
 ghost use lib.ListN.{length};
 ghost use Rattle.source.specs.Reads.{Reads};
 ghost use Rattle.scanner.specs.Scan.{Scans};
+ghost use Rattle.scanner.specs.Examples.{Examples};
+ghost use Rattle.scanner.specs.TokenLaws.{TokenLaws};
 ghost use Rattle.scanner.specs.Tokens.{startOf, endedToken, judgedOf, word-of, slash, name-of, string-token-of, hex-token-of, doubled-of, less-of, greater-of, next-of, token-of};
 use crate::bytes::take_if;
 use crate::failure::Failure;
@@ -196,7 +198,9 @@ fn next_token<S: Source>(source: &mut S, area: &mut [u8]) -> Result<Token, Failu
 // The next token, behind white bytes and comments, with its content at the start of the area. Refused where the area is
 // under 128 or over 65,535 bytes.
 pub fn read_token<S: Source>(source: &mut S, area: &mut [u8]) -> Result<Token, Failure>
-    ensures { λ r. ⌜ Scans (S·Source .model) token-of (S·Source .held (now (source .entry))) (now (area .entry)) r (S·Source .held (now (source .exit))) (now (area .exit)) ⌝ }
+    ensures scans { λ r. ⌜ Scans (S·Source .model) token-of (S·Source .held (now (source .entry))) (now (area .entry)) r (S·Source .held (now (source .exit))) (now (area .exit)) ⌝ }
+    ensures laws { λ _. ⌜ TokenLaws ⌝ }
+    ensures examples { λ _. ⌜ Examples ⌝ }
 {
     if area.len() < 128 || area.len() > 65535 {
         return Err(Failure::Area);

@@ -1,0 +1,12 @@
+use Rattle.scanner.specs.RunLaw.{RunLaw}
+use Rattle.scanner.specs.StringLaw.{StringLaw}
+use Rattle.scanner.specs.FigureLaw.{FigureLaw}
+
+-- what the definitions come to, in the words of the subject
+pub record TokenLaws : Type 0 where
+  -- what a run is, and where it stops
+  pub runs : RunLaw
+  -- what is written as a string scans as what it was
+  pub strings : StringLaw
+  -- a number has the value of its figures
+  pub figures : FigureLaw

@@ -12,3 +12,4 @@ pub mod RunLawful
 pub mod StringLawful
 pub mod FigureLawful
 pub mod Worked
+pub mod AnswerLawful

@@ -15,5 +15,6 @@ pub mod Tokens
 pub mod RunLaw
 pub mod StringLaw
 pub mod FigureLaw
+pub mod AnswerLaw
 pub mod TokenLaws
 pub mod Examples

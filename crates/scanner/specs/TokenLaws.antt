@@ -1,3 +1,4 @@
+use Rattle.scanner.specs.AnswerLaw.{AnswerLaw}
 use Rattle.scanner.specs.RunLaw.{RunLaw}
 use Rattle.scanner.specs.StringLaw.{StringLaw}
 use Rattle.scanner.specs.FigureLaw.{FigureLaw}
@@ -10,3 +11,5 @@ pub record TokenLaws : Type 0 where
   pub strings : StringLaw
   -- a number has the value of its figures
   pub figures : FigureLaw
+  -- the count, the value and the progress of each answer
+  pub answers : AnswerLaw

@@ -48,7 +48,7 @@ fn within(room: usize, size: usize) -> Option<usize>
 }
 
 // How many bytes show the content of a token, if the room is enough for them.
-pub fn shown_size(token: Token, content: &[u8], room: usize) -> Option<usize>
+pub(crate) fn shown_size(token: Token, content: &[u8], room: usize) -> Option<usize>
     ensures { λ r. ⌜ r ≡ fitting room (length (shown token (now (content .entry)))) ⌝ }
 {
     match form_of(token.kind) {
@@ -61,7 +61,7 @@ pub fn shown_size(token: Token, content: &[u8], room: usize) -> Option<usize>
 }
 
 // Writes the content of a token as it is shown.
-pub fn put_shown(line: &mut [u8], at: usize, token: Token, content: &[u8]) -> usize
+pub(crate) fn put_shown(line: &mut [u8], at: usize, token: Token, content: &[u8]) -> usize
     requires { ⌜ at + length (shown token (now content)) ≤ length (now line) ⌝ }
     ensures { λ r. ⌜ Placed at (shown token (now (content .entry))) (now (line .entry)) r (now (line .exit)) ⌝ }
 {

@@ -6,7 +6,7 @@ ghost use Rattle.listing.specs.Placing.{Placed};
 use crate::places::put_byte;
 
 // How many decimal digits a number has.
-pub fn number_size(n: u32) -> usize
+pub(crate) fn number_size(n: u32) -> usize
     ensures is { λ r. ⌜ r ≡ length (decimal n) ⌝ }
     ensures bound { λ r. ⌜ r ≤ 10 ⌝ }
 {
@@ -17,7 +17,7 @@ pub fn number_size(n: u32) -> usize
 }
 
 // Writes a number in decimal: what stands before its last digit, then that digit.
-pub fn put_number(line: &mut [u8], at: usize, n: u32) -> usize
+pub(crate) fn put_number(line: &mut [u8], at: usize, n: u32) -> usize
     requires { ⌜ at + length (decimal n) ≤ length (now line) ⌝ }
     ensures { λ r. ⌜ Placed at (decimal n) (now (line .entry)) r (now (line .exit)) ⌝ }
 {
@@ -30,7 +30,7 @@ pub fn put_number(line: &mut [u8], at: usize, n: u32) -> usize
 }
 
 // How many bytes a signed number has in decimal.
-pub fn integer_size(value: i32) -> usize
+pub(crate) fn integer_size(value: i32) -> usize
     ensures is { λ r. ⌜ r ≡ length (signed value) ⌝ }
     ensures bound { λ r. ⌜ r ≤ 11 ⌝ }
 {
@@ -39,7 +39,7 @@ pub fn integer_size(value: i32) -> usize
 }
 
 // Writes a signed number in decimal, with `-` before a negative one.
-pub fn put_integer(line: &mut [u8], at: usize, value: i32) -> usize
+pub(crate) fn put_integer(line: &mut [u8], at: usize, value: i32) -> usize
     requires { ⌜ at + length (signed value) ≤ length (now line) ⌝ }
     ensures { λ r. ⌜ Placed at (signed value) (now (line .entry)) r (now (line .exit)) ⌝ }
 {

@@ -35,7 +35,7 @@ fn put_escaped(line: &mut [u8], at: usize, b: u8) -> usize
 }
 
 // How many bytes show a name, if the room is enough for them. It stops where the room ends, so that no sum wraps.
-pub fn name_size(content: &[u8], room: usize) -> Option<usize>
+pub(crate) fn name_size(content: &[u8], room: usize) -> Option<usize>
     ensures { λ r. ⌜ r ≡ fitting room (length (escaped (now (content .entry)))) ⌝ }
 {
     let mut size = 0;
@@ -50,7 +50,7 @@ pub fn name_size(content: &[u8], room: usize) -> Option<usize>
 }
 
 // Writes a name as it is shown.
-pub fn put_name(line: &mut [u8], at: usize, content: &[u8]) -> usize
+pub(crate) fn put_name(line: &mut [u8], at: usize, content: &[u8]) -> usize
     requires { ⌜ at + length (escaped (now content)) ≤ length (now line) ⌝ }
     ensures { λ r. ⌜ Placed at (escaped (now (content .entry))) (now (line .entry)) r (now (line .exit)) ⌝ }
 {

@@ -4,7 +4,7 @@ ghost use lib.ListN.{length};
 ghost use Rattle.listing.specs.Placing.{Placed};
 
 // Writes a byte at a place of the line, and gives the place behind it.
-pub fn put_byte(line: &mut [u8], at: usize, b: u8) -> usize
+pub(crate) fn put_byte(line: &mut [u8], at: usize, b: u8) -> usize
     requires { ⌜ at < length (now line) ⌝ }
     ensures { λ r. ⌜ Placed at (b ∷ []) (now (line .entry)) r (now (line .exit)) ⌝ }
 {
@@ -13,7 +13,7 @@ pub fn put_byte(line: &mut [u8], at: usize, b: u8) -> usize
 }
 
 // Writes bytes from a place of the line on, and gives the place behind them.
-pub fn put_bytes(line: &mut [u8], at: usize, bytes: &[u8]) -> usize
+pub(crate) fn put_bytes(line: &mut [u8], at: usize, bytes: &[u8]) -> usize
     requires { ⌜ at + length (now bytes) ≤ length (now line) ⌝ }
     ensures { λ r. ⌜ Placed at (now (bytes .entry)) (now (line .entry)) r (now (line .exit)) ⌝ }
 {

@@ -23,7 +23,7 @@ fn put_pair(line: &mut [u8], at: usize, b: u8) -> usize
 }
 
 // How many bytes show a string, if the room is enough for them.
-pub fn string_size(content: &[u8], room: usize) -> Option<usize>
+pub(crate) fn string_size(content: &[u8], room: usize) -> Option<usize>
     ensures { λ r. ⌜ r ≡ fitting room (length (hexadecimal (now (content .entry)))) ⌝ }
 {
     // compared by the half, since the double may wrap
@@ -34,7 +34,7 @@ pub fn string_size(content: &[u8], room: usize) -> Option<usize>
 }
 
 // Writes a string as it is shown.
-pub fn put_string(line: &mut [u8], at: usize, content: &[u8]) -> usize
+pub(crate) fn put_string(line: &mut [u8], at: usize, content: &[u8]) -> usize
     requires { ⌜ at + length (hexadecimal (now content)) ≤ length (now line) ⌝ }
     ensures { λ r. ⌜ Placed at (hexadecimal (now (content .entry))) (now (line .entry)) r (now (line .exit)) ⌝ }
 {

@@ -4,7 +4,7 @@ ghost use Rattle.listing.specs.Words.{wordOf};
 use scanner::Kind;
 
 // The word of a kind in a token's line: its name, or the bracket itself. The end has a line of its own.
-pub fn word_of(kind: Kind) -> Option<&'static [u8]>
+pub(crate) fn word_of(kind: Kind) -> Option<&'static [u8]>
     ensures { λ r. ⌜ mapped now r ≡ wordOf kind ⌝ }
 {
     match kind {

@@ -1,9 +1,10 @@
-use mathlib.Core.Path.{_≡_, refl, sym, ap}
+use mathlib.Core.Path.{_≡_, sym, subst}
 use mathlib.Core.List.{List, [], _∷_, _++_}
 use mathlib.Core.Bool.{Bool, true, false, cond}
 use Prim.Native.Nat.{ℕ, zero, suc}
 use lib.Dec.{eqb}
 use lib.ListN.{length}
+use Rattle.std.proofs.shelf.Tests.{cond-false}
 use Rattle.std.specs.declared.option.Option.{Option}
 use Rattle.std.specs.declared.option.Option.the-variants.{Some, None}
 use Rattle.std.specs.declared.result.Result.{Result}
@@ -29,7 +30,7 @@ use Rattle.scanner.specs.Takes.{take-if-of}
 use Rattle.scanner.specs.Pieces.{piece-of}
 use Rattle.scanner.specs.Strings.{turnOf, string-turn, string-piece, string-at, string-of}
 use Rattle.scanner.specs.HexStrings.{hexByteOf, hexTurnOf, hex-full, hex-closed, hex-turn, hex-at, hex-of}
-use Rattle.scanner.specs.Tokens.{startOf, word-of, name-of, string-token-of, hex-token-of, doubled-by, doubled-of, less-by, less-of, greater-of, next-by, next-of}
+use Rattle.scanner.specs.Tokens.{startOf, word-of, name-of, string-token-of, hex-token-of, doubled-by, doubled-of, less-by, less-of, greater-of, next-by, next-of, unfit, token-of}
 use Rattle.scanner.proofs.PieceUses.{steady-piece, steady-take-if}
 
 -- what each definition leaves stands behind what was taken, and where nothing was taken a look was made
@@ -134,3 +135,7 @@ next-step start.Stray room b bs e = steady-next b bs
 pub steady-next-token : (room : ℕ) (rest : List ℕ) (e : Ending) → SteadyScan rest (next-of room rest e)
 steady-next-token room [] e = steady-here []
 steady-next-token room (b ∷ bs) e = next-step (startOf b) room b bs e
+
+pub steady-token : (room : ℕ) → unfit room ≡ false → (rest : List ℕ) (e : Ending) → SteadyScan rest (token-of room rest e)
+steady-token room fit rest e =
+    subst (λ (s : Scan _). SteadyScan rest s) (sym (cond-false (unfit room) _ _ fit)) (steady-then (steady-skip false rest) (steady-next-token room (skipped false rest) e))

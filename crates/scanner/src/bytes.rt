@@ -5,7 +5,7 @@ use source::Next;
 use source::Source;
 
 // Takes a byte that is needed: an end in its place is a fault.
-pub fn next_byte<S: Source>(source: &mut S) -> Result<u8, Fault>
+pub(crate) fn next_byte<S: Source>(source: &mut S) -> Result<u8, Fault>
     ensures { λ r. ⌜ Reads (S·Source .model) byte-of (S·Source .held (now (source .entry))) r (S·Source .held (now (source .exit))) ⌝ }
 {
     match source.take() {
@@ -15,7 +15,7 @@ pub fn next_byte<S: Source>(source: &mut S) -> Result<u8, Fault>
 }
 
 // Takes the next byte if it is `wanted`.
-pub fn take_if<S: Source>(source: &mut S, wanted: u8) -> bool
+pub(crate) fn take_if<S: Source>(source: &mut S, wanted: u8) -> bool
     ensures { λ r. ⌜ Reads (S·Source .model) (take-if-of wanted) (S·Source .held (now (source .entry))) r (S·Source .held (now (source .exit))) ⌝ }
 {
     match source.look() {

@@ -11,7 +11,7 @@ pub enum Class {
 }
 
 // The class of a byte: six are white, ten are special, all others are regular.
-pub fn class_of(b: u8) -> Class
+pub(crate) fn class_of(b: u8) -> Class
     ensures { λ r. ⌜ r ≡ classOf b ⌝ }
 {
     if is_white(b) {

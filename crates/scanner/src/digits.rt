@@ -8,7 +8,7 @@ use source::digit_value;
 const CAP: u64 = 4294967296;
 
 // The value of one or more digits in a base, 2^32 at most; None where there is none, or one is not below the base.
-pub fn digits(s: &[u8], base: u8) -> Option<u64>
+pub(crate) fn digits(s: &[u8], base: u8) -> Option<u64>
     requires least { ⌜ 2 ≤ base ⌝ }
     requires most { ⌜ base ≤ 36 ⌝ }
     ensures { λ r. ⌜ r ≡ capped (digitsOf base (now (s .entry))) ⌝ }

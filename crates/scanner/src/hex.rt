@@ -71,7 +71,7 @@ fn hex_turn(pending: Option<u8>, b: u8) -> HexTurn
 }
 
 // Reads a hex string, behind its `<`, up to `>`.
-pub fn hex_string<S: Source>(source: &mut S, area: &mut [u8]) -> Result<usize, Failure>
+pub(crate) fn hex_string<S: Source>(source: &mut S, area: &mut [u8]) -> Result<usize, Failure>
     requires { ⌜ length (now area) ≤ 65535 ⌝ }
     ensures { λ r. ⌜ Scans (S·Source .model) hex-of (S·Source .held (now (source .entry))) (now (area .entry)) r (S·Source .held (now (source .exit))) (now (area .exit)) ⌝ }
 {

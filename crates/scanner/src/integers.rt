@@ -9,7 +9,7 @@ fn is_sign(b: u8) -> bool
 }
 
 // What stands behind an optional sign.
-pub fn behind_sign(s: &[u8]) -> &[u8]
+pub(crate) fn behind_sign(s: &[u8]) -> &[u8]
     ensures { λ r. ⌜ now r ≡ behind-sign (now (s .entry)) ⌝ }
 {
     if !s.is_empty() && is_sign(s[0]) {
@@ -43,7 +43,7 @@ fn with_sign(minus: bool, v: u64) -> Option<i32>
 }
 
 // An integer: an optional sign and digits, within 32 signed bits.
-pub fn integer(s: &[u8]) -> Option<i32>
+pub(crate) fn integer(s: &[u8]) -> Option<i32>
     ensures { λ r. ⌜ r ≡ integerOf (now (s .entry)) ⌝ }
 {
     match digits(behind_sign(s), 10) {

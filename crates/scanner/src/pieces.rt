@@ -134,7 +134,7 @@ fn escaped<S: Source>(source: &mut S) -> Result<Piece, Fault>
 }
 
 // The next piece of a string; a line end of 13, or of 13 and 10, is the byte 10.
-pub fn next_piece<S: Source>(source: &mut S) -> Result<Piece, Fault>
+pub(crate) fn next_piece<S: Source>(source: &mut S) -> Result<Piece, Fault>
     ensures { λ r. ⌜ Reads (S·Source .model) piece-of (S·Source .held (now (source .entry))) r (S·Source .held (now (source .exit))) ⌝ }
 {
     let b = next_byte(source)?;

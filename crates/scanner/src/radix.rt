@@ -47,7 +47,7 @@ fn hash_at(s: &[u8], i: usize) -> bool
 }
 
 // A radix number: a base of one or two decimal digits, `#`, and one or more digits below the base.
-pub fn radix(s: &[u8]) -> Option<Word>
+pub(crate) fn radix(s: &[u8]) -> Option<Word>
     ensures { λ r. ⌜ r ≡ radixOf (now (s .entry)) ⌝ }
 {
     if hash_at(s, 1) {

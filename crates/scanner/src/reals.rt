@@ -50,7 +50,7 @@ fn is_exponent(s: &[u8]) -> bool
 }
 
 // A real: an optional sign, digits, at most one point, at least one digit, and an optional exponent.
-pub fn is_real(s: &[u8]) -> bool
+pub(crate) fn is_real(s: &[u8]) -> bool
     ensures { λ r. ⌜ r ≡ realOf (now (s .entry)) ⌝ }
 {
     let whole = behind_sign(s);

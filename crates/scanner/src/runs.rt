@@ -14,7 +14,7 @@ use source::Source;
 const MOST: usize = 127;
 
 // Reads a run of regular bytes into the area, and takes the one white byte behind it.
-pub fn run<S: Source>(source: &mut S, area: &mut [u8]) -> Result<usize, Failure>
+pub(crate) fn run<S: Source>(source: &mut S, area: &mut [u8]) -> Result<usize, Failure>
     requires { ⌜ 128 ≤ length (now area) ⌝ }
     ensures { λ r. ⌜ Scans (S·Source .model) run-of (S·Source .held (now (source .entry))) (now (area .entry)) r (S·Source .held (now (source .exit))) (now (area .exit)) ⌝ }
 {

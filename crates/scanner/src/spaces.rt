@@ -22,7 +22,7 @@ fn passing(comment: bool, b: u8) -> Option<bool>
 }
 
 // Passes over white bytes and comments, and looks at what stands behind them.
-pub fn skip<S: Source>(source: &mut S)
+pub(crate) fn skip<S: Source>(source: &mut S)
     ensures { λ _. ⌜ S·Source .held (now (source .exit)) ≡ gone-to (S·Source .model) (S·Source .held (now (source .entry))) (skipped false (S·Source .model .rest (S·Source .held (now (source .entry))))) true ⌝ }
 {
     let mut comment = false;

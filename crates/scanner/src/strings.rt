@@ -40,7 +40,7 @@ fn turn_of(piece: Piece, depth: usize) -> Turn
 }
 
 // Reads a string, behind its `(`, up to the `)` that balances it.
-pub fn string<S: Source>(source: &mut S, area: &mut [u8]) -> Result<usize, Failure>
+pub(crate) fn string<S: Source>(source: &mut S, area: &mut [u8]) -> Result<usize, Failure>
     requires { ⌜ length (now area) ≤ 65535 ⌝ }
     ensures { λ r. ⌜ Scans (S·Source .model) string-of (S·Source .held (now (source .entry))) (now (area .entry)) r (S·Source .held (now (source .exit))) (now (area .exit)) ⌝ }
 {

@@ -15,7 +15,7 @@ pub enum Word {
 }
 
 // What a run is: an integer, a radix number, a real, or else a name.
-pub fn classify(s: &[u8]) -> Word
+pub(crate) fn classify(s: &[u8]) -> Word
     ensures { λ r. ⌜ r ≡ wordOf (now (s .entry)) ⌝ }
 {
     if let Some(v) = integer(s) {

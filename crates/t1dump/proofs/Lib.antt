@@ -1,0 +1,2 @@
+pub mod ShortLines
+pub mod ListUses

@@ -1,0 +1,4 @@
+pub mod Texts
+pub mod Written
+pub mod Listed
+pub mod LinesLaw

@@ -14,97 +14,33 @@ use Rattle.std.proofs.shelf.Tests.{cond-both, cond-false, leb-true, leb-false}
 use Rattle.std.proofs.shelf.Ways.{tells}
 use Rattle.source.specs.declared.ending.Ending.{Ending}
 use Rattle.source.specs.declared.ending.Ending.the-variants.{Clean, Damaged}
-use Rattle.source.specs.declared.fault.Cause.the-variants.{Limit}
-use Rattle.source.specs.declared.fault.Fault.{Fault}
-use Rattle.source.specs.Numbers.{faulty}
 use Rattle.source.proofs.Going.{behind-fewer}
 use Rattle.scanner.specs.declared.failure.Failure.{Failure}
 use Rattle.scanner.specs.declared.failure.Failure.the-variants as failure
 use Rattle.scanner.specs.declared.class.Class.{Class}
 use Rattle.scanner.specs.declared.class.Class.the-variants.{White, Special, Regular}
-use Rattle.scanner.specs.declared.hex.HexTurn.{HexTurn}
-use Rattle.scanner.specs.declared.hex.HexTurn.the-variants as hexed
 use Rattle.scanner.specs.declared.kinds.Kind.{Kind}
 use Rattle.scanner.specs.declared.kinds.Kind.the-variants as kind
 use Rattle.scanner.specs.declared.kinds.Token.{Token}
-use Rattle.scanner.specs.declared.pieces.Piece.{Piece}
-use Rattle.scanner.specs.declared.strings.Turn.{Turn}
-use Rattle.scanner.specs.declared.strings.Turn.the-variants.{Put, Pass, Done}
 use Rattle.scanner.specs.declared.tokens.Start.{Start}
 use Rattle.scanner.specs.declared.tokens.Start.the-variants as start
 use Rattle.scanner.specs.declared.words.Word.{Word}
 use Rattle.scanner.specs.declared.words.Word.the-variants.{Integer, Real, Name, TooLarge}
 use Rattle.scanner.specs.Classes.{classOf}
 use Rattle.scanner.specs.Digits.{digitsOf}
-use Rattle.scanner.specs.Failures.{broken}
-use Rattle.scanner.specs.HexStrings.{hexByteOf, hexTurnOf, hex-full, hex-closed, hex-turn, hex-at}
+use Rattle.scanner.specs.HexStrings.{hex-at}
 use Rattle.scanner.specs.Numbers.{signed, signed-value, behind-sign, negative, integerOf, integer-or, twosOf, radix-value, radix-in, radixOf, radix-or, realOf, wordOf}
-use Rattle.scanner.specs.Pieces.{piece-of}
-use Rattle.scanner.specs.Plain.{plain}
-use Rattle.scanner.specs.Runs.{run-by, run-at, run-of}
+use Rattle.scanner.specs.Runs.{run-by, run-at}
 use Rattle.scanner.specs.Scan.{Scan}
 use Rattle.scanner.specs.Spaces.{skipped}
-use Rattle.scanner.specs.Strings.{turnOf, string-turn, string-piece, string-at, string-of}
+use Rattle.scanner.specs.Strings.{string-of}
 use Rattle.scanner.specs.Takes.{take-if-of}
 use Rattle.scanner.specs.Tokens.{startOf, endedToken, judged-by, judgedOf, worded, as-word, word-of, tokened, as-token, slash, name-of, doubled-of, doubled-by, bare, bare-fault, less-by, less-of, hex-token-of, greater-by, greater-of, unfit, next-by, next-of, token-of}
 use Rattle.scanner.specs.AnswerLaw.{said, InRange, KindValue, Valued, AnswerLaw}
-use Rattle.scanner.proofs.Steadiness.{steady-skip, steady-run-at, steady-string, steady-name, steady-less, steady-doubled}
+use Rattle.scanner.proofs.Sound.{count, sound-run, sound-string, sound-hex}
+use Rattle.scanner.proofs.Steadiness.{steady-skip, steady-string, steady-name, steady-less, steady-doubled}
 
 -- the count of an answer
-
-abbrev count : Result ℕ Failure → ℕ
-count (Ok n) = n
-count (Err failure.Area) = 0
-count (Err (failure.Fault f n)) = n
-
-abbrev Counted : Scan (Result ℕ Failure) → Type 0
-Counted s = count (s .answer) ≡ length (s .content)
-
-counted-cond : (b : Bool) (s t : Scan (Result ℕ Failure)) → Counted s → Counted t → Counted (cond b s t)
-counted-cond true s t x y = x
-counted-cond false s t x y = y
-
-run-step : (k : Class) (done : List ℕ) (b : ℕ) (bs : List ℕ) (on : Scan (Result ℕ Failure)) → Counted on → Counted (run-by k done b bs on)
-run-step Special done b bs on s = refl
-run-step White done b bs on s = refl
-run-step Regular done b bs on s = counted-cond (eqb (length done) 127) _ on refl s
-
-run-counted : (done rest : List ℕ) → Counted (run-at done rest)
-run-counted done [] = refl
-run-counted done (b ∷ bs) = run-step (classOf b) done b bs (run-at (done ++ b ∷ []) bs) (run-counted (done ++ b ∷ []) bs)
-
-turn-step :
-    (t : Turn) (room : ℕ) (done : List ℕ) (depth : ℕ) (left : List ℕ) (peeked : Bool) (on : List ℕ → ℕ → Scan (Result ℕ Failure))
-    → ((d : List ℕ) (n : ℕ) → Counted (on d n)) → Counted (string-turn t room done depth left peeked on)
-turn-step Done room done depth left peeked on i = refl
-turn-step Pass room done depth left peeked on i = i done depth
-turn-step (Put b to) room done depth left peeked on i = counted-cond (eqb (length done) room) _ (on (done ++ b ∷ []) to) refl (i (done ++ b ∷ []) to)
-
-piece-step :
-    (a : Result Piece Fault) (room : ℕ) (done : List ℕ) (depth : ℕ) (left : List ℕ) (peeked : Bool) (on : List ℕ → ℕ → Scan (Result ℕ Failure))
-    → ((d : List ℕ) (n : ℕ) → Counted (on d n)) → Counted (string-piece a room done depth left peeked on)
-piece-step (Err f) room done depth left peeked on i = refl
-piece-step (Ok p) room done depth left peeked on i = turn-step (turnOf p depth) room done depth left peeked on i
-
-string-counted : (k room : ℕ) (done : List ℕ) (depth : ℕ) (rest : List ℕ) (e : Ending) → Counted (string-at k room done depth rest e)
-string-counted zero room done depth rest e = refl
-string-counted (suc k) room done depth rest e =
-    piece-step (piece-of rest e .answer) room done depth (piece-of rest e .left) (piece-of rest e .peeked)
-    (λ d n. string-at k room d n (piece-of rest e .left) e) (λ d n. string-counted k room d n (piece-of rest e .left) e)
-
-hex-step :
-    (t : HexTurn) (room : ℕ) (done left : List ℕ) (on : List ℕ → Option ℕ → Scan (Result ℕ Failure))
-    → ((d : List ℕ) (half : Option ℕ) → Counted (on d half)) → Counted (hex-turn t room done left on)
-hex-step (hexed.Wait half) room done left on i = i done half
-hex-step (hexed.Put v) room done left on i = counted-cond (eqb (length done) room) (hex-full done left) (on (done ++ v ∷ []) None) refl (i (done ++ v ∷ []) None)
-hex-step (hexed.Last v) room done left on i = counted-cond (eqb (length done) room) (hex-full done left) (hex-closed (done ++ v ∷ []) left) refl refl
-hex-step hexed.Done room done left on i = refl
-hex-step hexed.Stray room done left on i = refl
-
-hex-counted : (room : ℕ) (done : List ℕ) (pending : Option ℕ) (rest : List ℕ) (e : Ending) → Counted (hex-at room done pending rest e)
-hex-counted room done pending [] e = refl
-hex-counted room done pending (b ∷ bs) e =
-    hex-step (hexTurnOf pending (hexByteOf b)) room done bs (λ done half. hex-at room done half bs e) (λ d half. hex-counted room d half bs e)
 
 tokened-said : (k : Kind) (r : Result ℕ Failure) → said (tokened k r) ≡ count r
 tokened-said k (Ok n) = refl
@@ -125,7 +61,7 @@ worded-said (Err (failure.Fault f n)) s e = e
 abbrev Said : Scan (Result Token Failure) → Type 0
 Said s = said (s .answer) ≡ length (s .content)
 
-token-said : (k : Kind) (s : Scan (Result ℕ Failure)) → Counted s → Said (as-token k s)
+token-said : (k : Kind) (s : Scan (Result ℕ Failure)) → count (s .answer) ≡ length (s .content) → Said (as-token k s)
 token-said k s e = tokened-said k (s .answer) ∙ e
 
 doubled-bare : (wanted : ℕ) (rest : List ℕ) (e : Ending) (f : Failure) → doubled-of wanted rest e .answer ≡ Err f → f ≡ bare-fault e
@@ -143,7 +79,7 @@ less-said room rest e = at (doubled-of 60 rest e .answer) refl
         → Said (less-by a (doubled-of 60 rest e .left) (doubled-of 60 rest e .peeked) (hex-token-of room (doubled-of 60 rest e .left) e))
     at (Err f) q = ap (λ f. said (Err f)) (doubled-bare 60 rest e f q)
     at (Ok true) q = refl
-    at (Ok false) q = token-said kind.HexString (hex-at room [] None (doubled-of 60 rest e .left) e) (hex-counted room [] None (doubled-of 60 rest e .left) e)
+    at (Ok false) q = token-said kind.HexString (hex-at room [] None (doubled-of 60 rest e .left) e) (sound-hex room (doubled-of 60 rest e .left) e .counted)
 
 greater-said : (rest : List ℕ) (e : Ending) → said (greater-of rest e .answer) ≡ 0
 greater-said rest e = at (doubled-of 62 rest e .answer) refl
@@ -154,9 +90,9 @@ greater-said rest e = at (doubled-of 62 rest e .answer) refl
     at (Ok false) q = refl
 
 next-said : (k : Start) (room b : ℕ) (bs : List ℕ) (e : Ending) → Said (next-by k room b bs e)
-next-said start.Run room b bs e = worded-said (run-at [] (b ∷ bs) .answer) (run-at [] (b ∷ bs) .content) (run-counted [] (b ∷ bs))
-next-said start.String room b bs e = token-said kind.String (string-of room bs e) (string-counted (suc (length bs)) room [] 0 bs e)
-next-said start.Slash room b bs e = token-said (slash (take-if-of 47 bs e .answer)) (run-at [] (take-if-of 47 bs e .left)) (run-counted [] (take-if-of 47 bs e .left))
+next-said start.Run room b bs e = worded-said (run-at [] (b ∷ bs) .answer) (run-at [] (b ∷ bs) .content) (sound-run [] (b ∷ bs) .counted)
+next-said start.String room b bs e = token-said kind.String (string-of room bs e) (sound-string room bs e .counted)
+next-said start.Slash room b bs e = token-said (slash (take-if-of 47 bs e .answer)) (run-at [] (take-if-of 47 bs e .left)) (sound-run [] (take-if-of 47 bs e .left) .counted)
 next-said start.Less room b bs e = less-said room bs e
 next-said start.Greater room b bs e = greater-said bs e
 next-said (start.Bracket k) room b bs e = refl
@@ -306,7 +242,7 @@ run-regular b p q = grind (arith, tells)
 run-takes : (k : Class) (b : ℕ) (bs : List ℕ) → (k ≡ Special → ⊥) → length (run-by k [] b bs (run-at (b ∷ []) bs) .left) ≤ length bs
 run-takes Special b bs no-way = absurd (no-way refl)
 run-takes White b bs no-way = omega arith
-run-takes Regular b bs no-way = behind-fewer (steady-run-at (b ∷ []) bs .behind)
+run-takes Regular b bs no-way = behind-fewer (sound-run (b ∷ []) bs .steady .behind)
 
 next-takes : (k : Start) (room b : ℕ) (bs : List ℕ) (e : Ending) → k ≡ startOf b → length (next-by k room b bs e .left) ≤ length bs
 next-takes start.Run room b bs e q = run-takes (classOf b) b bs (run-regular b q)

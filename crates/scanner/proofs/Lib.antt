@@ -6,6 +6,7 @@ pub mod NumberUses
 pub mod PieceUses
 pub mod StringUses
 pub mod HexUses
+pub mod Sound
 pub mod Steadiness
 pub mod TokenUses
 pub mod RunLawful

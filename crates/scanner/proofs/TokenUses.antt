@@ -2,7 +2,7 @@ use mathlib.Core.Path.{_≡_, refl, sym, ap, ap₂, _∙_}
 use mathlib.Core.List.{List, [], _∷_, _++_}
 use mathlib.Core.Bool.{Bool, true, false, cond, _||_}
 use Prim.Native.Nat.{ℕ, _≤_}
-use lib.Dec.{eqb, ltb}
+use lib.Dec.{ltb}
 use lib.ListN.{length, take, drop}
 use native.Mathlib.Omega.{arith}
 use Rattle.std.proofs.shelf.Lists.{length-append, take-at}
@@ -10,30 +10,25 @@ use Rattle.std.proofs.shelf.Tests.{cond-false, or-from, le-ltb}
 use Rattle.std.specs.declared.result.Result.{Result}
 use Rattle.std.specs.declared.result.Result.the-variants.{Ok, Err}
 use Rattle.source.specs.declared.ending.Ending.{Ending}
-use Rattle.source.specs.declared.fault.Cause.the-variants.{Limit}
 use Rattle.source.specs.declared.interface.Next.the-variants.{Byte, End}
 use Rattle.source.specs.Model.{Model, first}
 use Rattle.source.specs.Laws.{Lawful}
 use Rattle.source.specs.Gone.{gone-to}
-use Rattle.source.specs.Numbers.{faulty}
 use Rattle.source.specs.Reads.{Read, Reads}
 use Rattle.source.proofs.Calls.{Steady, steady-here, steady-take, take-of, look-of, take-first, reads-take, reads-look}
 use Rattle.scanner.specs.declared.failure.Failure.{Failure}
-use Rattle.scanner.specs.declared.class.Class.{Class}
-use Rattle.scanner.specs.declared.class.Class.the-variants.{White, Special, Regular}
 use Rattle.scanner.specs.declared.kinds.Kind.{Kind}
 use Rattle.scanner.specs.declared.kinds.Token.{Token}
 use Rattle.scanner.specs.declared.tokens.Start.{Start}
 use Rattle.scanner.specs.declared.tokens.Start.the-variants as start
-use Rattle.scanner.specs.Classes.{classOf}
-use Rattle.scanner.specs.Failures.{broken}
 use Rattle.scanner.specs.Scan.{Scan, Scans}
 use Rattle.scanner.specs.Spaces.{skipped}
-use Rattle.scanner.specs.Runs.{run-by, run-at, run-of}
+use Rattle.scanner.specs.Runs.{run-at, run-of}
 use Rattle.scanner.specs.Takes.{take-if-of}
 use Rattle.scanner.specs.Tokens.{startOf, judgedOf, tokened, as-token, slash, worded, word-of, name-of, hex-token-of, doubled-of, bare, less-by, less-of, greater-of, unfit, next-by, next-of, token-of}
 use Rattle.scanner.proofs.PieceUses.{steady-take-if}
 use Rattle.scanner.proofs.Scanning.{scans-then, scans-as}
+use Rattle.scanner.proofs.Sound.{count, sound-run}
 use Rattle.scanner.proofs.Steadiness.{SteadyScan, steady-skip, steady-run, steady-hex, steady-doubled, steady-next-token}
 
 abbrev skip-of : List ℕ → Ending → Read (Unit {0})
@@ -127,26 +122,13 @@ module _ {H : Type 0} (m : Model H) (l : Lawful H m) (h h₁ h₂ : H) (old new 
         taken-not [] e b p = let z : _≡_ {A = ℕ} 0 1 = cc in let no-way : ⊥ = omega arith in absurd no-way
         taken-not (x ∷ rest) e b p = refl
 
-count-step :
-    (k : Class) (done : List ℕ) (b : ℕ) (bs : List ℕ) (on : Scan (Result ℕ Failure)) (n : ℕ)
-    → (Ok n ≡ on .answer → n ≡ length (on .content)) → Ok n ≡ run-by k done b bs on .answer → n ≡ length (run-by k done b bs on .content)
-count-step Special done b bs on n i e = cc
-count-step White done b bs on n i e = cc
-count-step Regular done b bs on n i e = at (eqb (length done) 127) e
-  where
-    at : (t : Bool) → Ok n ≡ (cond t (record { answer = Err (broken (faulty Limit) done); content = done; left = bs; peeked = false }) on) .answer
-        → n ≡ length ((cond t (record { answer = Err (broken (faulty Limit) done); content = done; left = bs; peeked = false }) on) .content)
-    at true e = let z : _≡_ {A = ℕ} 0 1 = cc in let no-way : ⊥ = omega arith in absurd no-way
-    at false e = i e
-
 -- a run that is read says how long it is
-pub run-counts : (done rest : List ℕ) (n : ℕ) → Ok n ≡ run-at done rest .answer → n ≡ length (run-at done rest .content)
-run-counts done [] n e = cc
-run-counts done (b ∷ bs) n e = count-step (classOf b) done b bs (run-at (done ++ b ∷ []) bs) n (run-counts (done ++ b ∷ []) bs n) e
+run-counts : (rest : List ℕ) (n : ℕ) → Ok n ≡ run-at [] rest .answer → n ≡ length (run-at [] rest .content)
+run-counts rest n e = ap count e ∙ sound-run [] rest .counted
 
 module _ {H : Type 0} (m : Model H) (h h₁ : H) (old new : List ℕ) (n : ℕ) (y : Scans m run-of h old (Ok n) h₁ new) where
   counted : n ≡ length (run-at [] (m .rest h) .content)
-  counted = run-counts [] (m .rest h) n (y .answer)
+  counted = run-counts (m .rest h) n (y .answer)
 
   pub word-within : n ≤ length new
   word-within = omega (arith, counted, ap length (y .filled), length-append (run-at [] (m .rest h) .content) (drop (length (run-at [] (m .rest h) .content)) old))

@@ -14,7 +14,8 @@ use Rattle.std.proofs.shelf.Tests.{cond-both, cond-false, leb-true, leb-false}
 use Rattle.std.proofs.shelf.Ways.{tells}
 use Rattle.source.specs.declared.ending.Ending.{Ending}
 use Rattle.source.specs.declared.ending.Ending.the-variants.{Clean, Damaged}
-use Rattle.source.proofs.Going.{behind-fewer}
+use Rattle.source.specs.Gone.{Behind}
+use Rattle.source.proofs.Going.{behind-self, behind-trans, behind-fewer}
 use Rattle.scanner.specs.declared.failure.Failure.{Failure}
 use Rattle.scanner.specs.declared.failure.Failure.the-variants as failure
 use Rattle.scanner.specs.declared.class.Class.{Class}
@@ -38,7 +39,7 @@ use Rattle.scanner.specs.Takes.{take-if-of}
 use Rattle.scanner.specs.Tokens.{startOf, endedToken, judged-by, judgedOf, worded, as-word, word-of, tokened, as-token, slash, name-of, doubled-of, doubled-by, bare, bare-fault, less-by, less-of, hex-token-of, greater-by, greater-of, unfit, next-by, next-of, token-of}
 use Rattle.scanner.specs.AnswerLaw.{said, InRange, KindValue, Valued, AnswerLaw}
 use Rattle.scanner.proofs.Sound.{count, sound-run, sound-string, sound-hex}
-use Rattle.scanner.proofs.Steadiness.{steady-skip, steady-string, steady-name, steady-less, steady-doubled}
+use Rattle.scanner.proofs.Steadiness.{steady-skip, steady-string, steady-name, steady-less, steady-doubled, steady-next-token}
 
 -- the count of an answer
 
@@ -109,6 +110,10 @@ all-said room (b ∷ bs) e = next-said (startOf b) room b bs e
 said-cond : (b : Bool) (s t : Scan (Result Token Failure)) → Said s → Said t → Said (cond b s t)
 said-cond true s t x y = x
 said-cond false s t x y = y
+
+behind-cond : (rest : List ℕ) (b : Bool) (s t : Scan (Result Token Failure)) → Behind (s .left) rest → Behind (t .left) rest → Behind (cond b s t .left) rest
+behind-cond rest true s t x y = x
+behind-cond rest false s t x y = y
 
 -- the value of an answer
 
@@ -264,6 +269,8 @@ pub answer-law : AnswerLaw
 answer-law = record {
   counts = λ room rest e. said-cond (unfit room) _ (next-of room (skipped false rest) e) refl (all-said room (skipped false rest) e);
   values = λ room rest e. valued-cond (unfit room) _ (next-of room (skipped false rest) e) tt (all-valued room (skipped false rest) e);
+  behind = λ room rest e. behind-cond rest (unfit room) _ (next-of room (skipped false rest) e) (behind-self rest)
+      (behind-trans (steady-next-token room (skipped false rest) e .behind) (steady-skip false rest .behind));
   ends = λ room rest e fit none. fit-token room rest e fit ∙ ap (λ r. next-of room r e) none;
   moves = λ room rest e fit some.
       let falls : length (next-of room (skipped false rest) e .left) < length (skipped false rest) = next-falls room (skipped false rest) e some in

@@ -56,15 +56,20 @@ figures-no-hash (a ∷ b ∷ []) f = cond-false (eqb b 35) _ _ (digit-tells b (f
 figures-no-hash (a ∷ b ∷ c ∷ s) f =
     cond-false (eqb b 35) _ _ (digit-tells b (f .1 .0) .2) ∙ cond-false (eqb c 35) _ _ (digit-tells c (f .1 .1 .0) .2)
 
+signed-no-hash : (c : ℕ) (s : List ℕ) → Figures 10 s → radixOf (c ∷ s) ≡ None
+signed-no-hash c [] f = refl
+signed-no-hash c (a ∷ []) f = cond-false (eqb a 35) _ _ (digit-tells a (f .0) .2)
+signed-no-hash c (a ∷ b ∷ s) f =
+    cond-false (eqb a 35) _ _ (digit-tells a (f .0) .2) ∙ cond-false (eqb b 35) _ _ (digit-tells b (f .1 .0) .2)
+
 some-figures : (s : List ℕ) → 0 < worth 10 s → 0 < length s
 some-figures [] h = let no-way : ⊥ = omega arith in absurd no-way
 some-figures (b ∷ bs) h = omega arith
 
-figures-real : (s : List ℕ) → 0 < length s → Figures 10 s → realOf s ≡ true
+figures-real : (s : List ℕ) → 0 < length s → Figures 10 s → real-behind-sign s ≡ true
 figures-real s h f =
-    ap real-behind-sign (figures-bare s f .0)
-    ∙ (ap (λ d. (ltb (length d) (length s) || ltb (length (behind-digits (behind-one (λ b. eqb b 46) d))) (length (behind-one (λ b. eqb b 46) d))) && exponent (behind-digits (behind-one (λ b. eqb b 46) d))) (figures-all s f)
-    ∙ ap (λ t. (t || false) && true) (lt-ltb 0 (length s) h))
+    ap (λ d. (ltb (length d) (length s) || ltb (length (behind-digits (behind-one (λ b. eqb b 46) d))) (length (behind-one (λ b. eqb b 46) d))) && exponent (behind-digits (behind-one (λ b. eqb b 46) d))) (figures-all s f)
+    ∙ ap (λ t. (t || false) && true) (lt-ltb 0 (length s) h)
 
 bare-integer : (s : List ℕ) → 0 < length s → Figures 10 s → integerOf s ≡ signed-value false (Some (worth 10 s))
 bare-integer s h f =
@@ -72,6 +77,9 @@ bare-integer s h f =
 
 abbrev rest-word : List ℕ → Word
 rest-word s = radix-or (radixOf s) (cond (realOf s) Real Name)
+
+real-word : (s : List ℕ) → radixOf s ≡ None → realOf s ≡ true → rest-word s ≡ Real
+real-word s p q = ap (λ o. radix-or o (cond (realOf s) Real Name)) p ∙ cond-true (realOf s) Real Name q
 
 -- figures, a # and figures are no integer
 hash-stops : (v : ℕ) (base s : List ℕ) → Figures 10 base → digits-behind 10 v (base ++ 35 ∷ s) ≡ None
@@ -113,6 +121,14 @@ figure-law = record {
   beyond = λ s f w.
       let h : 0 < length s = some-figures s (let k : 0 < worth 10 s = omega arith in k) in
       ap (λ o. integer-or o (rest-word s)) (bare-integer s h f ∙ cond-false (leb (worth 10 s) 2147483647) _ _ (lt-leb (worth 10 s) 2147483647 w))
-      ∙ (ap (λ o. radix-or o (cond (realOf s) Real Name)) (figures-no-hash s f) ∙ cond-true (realOf s) Real Name (figures-real s h f));
+      ∙ real-word s (figures-no-hash s f) (ap real-behind-sign (figures-bare s f .0) ∙ figures-real s h f);
+  plus-beyond = λ s f w.
+      let h : 0 < length s = some-figures s (let k : 0 < worth 10 s = omega arith in k) in
+      ap (λ o. integer-or o (rest-word (43 ∷ s))) (ap (signed-value false) (some-worth 10 s h f) ∙ cond-false (leb (worth 10 s) 2147483647) _ _ (lt-leb (worth 10 s) 2147483647 w))
+      ∙ real-word (43 ∷ s) (signed-no-hash 43 s f) (figures-real s h f);
+  minus-beyond = λ s f w.
+      let h : 0 < length s = some-figures s (let k : 0 < worth 10 s = omega arith in k) in
+      ap (λ o. integer-or o (rest-word (45 ∷ s))) (ap (signed-value true) (some-worth 10 s h f) ∙ cond-false (leb (worth 10 s) 2147483648) _ _ (lt-leb (worth 10 s) 2147483648 w))
+      ∙ real-word (45 ∷ s) (signed-no-hash 45 s f) (figures-real s h f);
   radix = radix-word;
 }

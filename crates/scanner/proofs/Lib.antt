@@ -14,3 +14,5 @@ pub mod StringLawful
 pub mod FigureLawful
 pub mod Worked
 pub mod AnswerLawful
+pub mod StartLawful
+pub mod HexLawful

@@ -7,6 +7,7 @@ use lib.ListN.{length}
 use Rattle.std.specs.declared.result.Result.{Result}
 use Rattle.std.specs.declared.result.Result.the-variants.{Ok, Err}
 use Rattle.source.specs.declared.ending.Ending.{Ending}
+use Rattle.source.specs.Gone.{Behind}
 use Rattle.scanner.specs.declared.failure.Failure.{Failure}
 use Rattle.scanner.specs.declared.failure.Failure.the-variants.{Area, Fault}
 use Rattle.scanner.specs.declared.kinds.Kind.{Kind}
@@ -53,6 +54,8 @@ pub record AnswerLaw : Type 0 where
   pub counts : (room : ℕ) (rest : List ℕ) (e : Ending) → said (token-of room rest e .answer) ≡ length (token-of room rest e .content)
   -- its value is 0 but for integers
   pub values : (room : ℕ) (rest : List ℕ) (e : Ending) → Valued (token-of room rest e .answer)
+  -- what is left is what stands behind the bytes that were taken
+  pub behind : (room : ℕ) (rest : List ℕ) (e : Ending) → Behind (token-of room rest e .left) rest
   -- where nothing stands behind white bytes and comments, it is the ending
   pub ends : (room : ℕ) (rest : List ℕ) (e : Ending) → unfit room ≡ false → skipped false rest ≡ [] → token-of room rest e ≡ bare (endedToken e) [] true
   -- where something does, a byte is taken

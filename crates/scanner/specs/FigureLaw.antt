@@ -24,6 +24,8 @@ pub record FigureLaw : Type 0 where
   pub plus : (s : List ℕ) → 0 < length s → Figures 10 s → worth 10 s ≤ 2147483647 → wordOf (43 ∷ s) ≡ Integer (pos (worth 10 s))
   pub minus : (s : List ℕ) → 0 < length s → Figures 10 s → worth 10 s ≤ 2147483648 → wordOf (45 ∷ s) ≡ Integer (negℤ (pos (worth 10 s)))
   pub beyond : (s : List ℕ) → Figures 10 s → 2147483647 < worth 10 s → wordOf s ≡ Real
+  pub plus-beyond : (s : List ℕ) → Figures 10 s → 2147483647 < worth 10 s → wordOf (43 ∷ s) ≡ Real
+  pub minus-beyond : (s : List ℕ) → Figures 10 s → 2147483648 < worth 10 s → wordOf (45 ∷ s) ≡ Real
   pub radix :
       (base s : List ℕ) → 0 < length base → length base ≤ 2 → Figures 10 base → 2 ≤ worth 10 base → worth 10 base ≤ 36
       → 0 < length s → Figures (worth 10 base) s → wordOf (base ++ 35 ∷ s) ≡ twosOf (worth (worth 10 base) s)

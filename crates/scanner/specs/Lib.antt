@@ -16,5 +16,7 @@ pub mod RunLaw
 pub mod StringLaw
 pub mod FigureLaw
 pub mod AnswerLaw
+pub mod StartLaw
+pub mod HexLaw
 pub mod TokenLaws
 pub mod Examples

@@ -1,5 +1,7 @@
 use Rattle.scanner.specs.AnswerLaw.{AnswerLaw}
+use Rattle.scanner.specs.HexLaw.{HexLaw}
 use Rattle.scanner.specs.RunLaw.{RunLaw}
+use Rattle.scanner.specs.StartLaw.{StartLaw}
 use Rattle.scanner.specs.StringLaw.{StringLaw}
 use Rattle.scanner.specs.FigureLaw.{FigureLaw}
 
@@ -7,8 +9,11 @@ use Rattle.scanner.specs.FigureLaw.{FigureLaw}
 pub record TokenLaws : Type 0 where
   -- what a run is, and where it stops
   pub runs : RunLaw
-  -- what is written as a string scans as what it was
+  -- what begins with a regular byte or a / is a run
+  pub starts : StartLaw
+  -- what is written as a string, or as a hex string, scans as what it was
   pub strings : StringLaw
+  pub hex-strings : HexLaw
   -- a number has the value of its figures
   pub figures : FigureLaw
   -- the count, the value and the progress of each answer

@@ -15,7 +15,8 @@ use Rattle.std.specs.Joined.{joined}
 use Rattle.std.proofs.shelf.Ways.{tells}
 use Rattle.std.proofs.shelf.Numerals.{Numerals, TellsDigits, tells-by-index, numerals-by-weight}
 use Rattle.std.proofs.shelf.Decimals.{decimal-some, decimal-digit, digits-decimal, value-decimal, first-decimal}
-use Rattle.listing.specs.Shown.{plain, escape, escaped, hexDigit, pair, hexadecimal}
+use Rattle.source.specs.Bytes.{hexDigit, hexPair}
+use Rattle.listing.specs.Shown.{plain, escape, escaped, hexadecimal}
 use Rattle.listing.specs.Laws.{worth, Figures, Decimals, ToldApart}
 
 own : Numerals (λ ds. (i : ℕ) → i < length ds → In 48 57 (getD ds i 0)) worth
@@ -77,7 +78,7 @@ escape-some x = cond-both (plain x) _ _ (λ z. 0 < length z) (λ e. omega arith)
 hexDigit-apart : (c d : ℕ) → hexDigit c ≡ hexDigit d → c ≡ d
 hexDigit-apart c d e = grind (arith, tells)
 
-pair-apart : (x y : ℕ) (xs ys : List ℕ) → pair x ++ xs ≡ pair y ++ ys → (x ≡ y) × (xs ≡ ys)
+pair-apart : (x y : ℕ) (xs ys : List ℕ) → hexPair x ++ xs ≡ hexPair y ++ ys → (x ≡ y) × (xs ≡ ys)
 pair-apart x y xs ys e =
     let high : hexDigit (x / 16) ≡ hexDigit (y / 16) = cc in
     let low : hexDigit (x % 16) ≡ hexDigit (y % 16) = cc in
@@ -104,5 +105,5 @@ module _
 pub told-apart : ToldApart
 told-apart = record {
   names = joined-apart escape escape-some escape-apart;
-  strings = joined-apart pair (λ x. omega arith) pair-apart;
+  strings = joined-apart hexPair (λ x. omega arith) pair-apart;
 }

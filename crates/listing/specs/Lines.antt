@@ -16,7 +16,7 @@ use Rattle.scanner.specs.declared.kinds.Token.{Token}
 use Rattle.listing.specs.declared.refusal.Refusal.{Refusal}
 use Rattle.listing.specs.declared.refusal.Refusal.the-variants.{Line}
 use Rattle.listing.specs.Shown.{shown}
-use Rattle.listing.specs.Words.{wordOf}
+use Rattle.listing.specs.Words.{kindWord}
 
 abbrev pub blank : List ℕ
 blank = 32 ∷ []
@@ -43,7 +43,7 @@ token-by (Some word) level content = decimal level ++ blank ++ word ++ spaced co
 
 -- the line of a token with its content at a level
 abbrev pub token-text : ℕ → Token → List ℕ → List ℕ
-token-text level token content = token-by (wordOf (token .kind)) level (shown token content)
+token-text level token content = token-by (kindWord (token .kind)) level (shown token content)
 
 -- the line of an ending
 abbrev pub ending-text : Ending → List ℕ

@@ -1,10 +1,11 @@
 use mathlib.Core.Bool.{Bool, cond, not, _&&_}
 use mathlib.Core.List.{List, [], _∷_}
 use Prim.Native.Nat.{ℕ, _+_, _/_, _%_}
-use lib.Dec.{eqb, leb, ltb}
+use lib.Dec.{eqb, leb}
 use lib.IntN.{ℤ}
 use Rattle.std.specs.Joined.{joined}
 use Rattle.std.specs.Written.{signed}
+use Rattle.source.specs.Bytes.{hexPair}
 use Rattle.scanner.specs.declared.kinds.Kind.{Kind}
 use Rattle.scanner.specs.declared.kinds.Kind.the-variants as kind
 use Rattle.scanner.specs.declared.kinds.Token.{Token}
@@ -23,16 +24,9 @@ escape b = cond (plain b) (b ∷ []) (92 ∷ (48 + b / 64) ∷ (48 + b / 8 % 8) 
 abbrev pub escaped : List ℕ → List ℕ
 escaped = joined escape
 
-abbrev pub hexDigit : ℕ → ℕ
-hexDigit d = cond (ltb d 10) (48 + d) (55 + d)
-
--- two hexadecimal digits, the high half first
-abbrev pub pair : ℕ → List ℕ
-pair b = hexDigit (b / 16) ∷ hexDigit (b % 16) ∷ []
-
--- a string as it is shown
+-- a string as it is shown: two hexadecimal digits for each byte
 abbrev pub hexadecimal : List ℕ → List ℕ
-hexadecimal = joined pair
+hexadecimal = joined hexPair
 
 -- how the content of a token is shown
 abbrev pub formOf : Kind → Form

@@ -2,7 +2,8 @@ ghost use mathlib.Core.Path.{_≡_};
 ghost use Prim.Native.Nat.{_+_, _<_, _≤_};
 ghost use lib.ListN.{length};
 ghost use Rattle.listing.specs.Placing.{Placed, fitting};
-ghost use Rattle.listing.specs.Shown.{hexDigit, pair, hexadecimal};
+ghost use Rattle.source.specs.Bytes.{hexDigit, hexPair};
+ghost use Rattle.listing.specs.Shown.{hexadecimal};
 use crate::places::put_byte;
 
 // A hexadecimal digit, with a capital letter.
@@ -15,8 +16,8 @@ fn hex_digit(d: u8) -> u8
 
 // Writes a byte as two hexadecimal digits, the high half first.
 fn put_pair(line: &mut [u8], at: usize, b: u8) -> usize
-    requires { ⌜ at + length (pair b) ≤ length (now line) ⌝ }
-    ensures { λ r. ⌜ Placed at (pair b) (now (line .entry)) r (now (line .exit)) ⌝ }
+    requires { ⌜ at + length (hexPair b) ≤ length (now line) ⌝ }
+    ensures { λ r. ⌜ Placed at (hexPair b) (now (line .entry)) r (now (line .exit)) ⌝ }
 {
     let low = put_byte(line, at, hex_digit(b / 16));
     put_byte(line, low, hex_digit(b % 16))

@@ -1,11 +1,11 @@
 ghost use mathlib.Core.Path.{_≡_};
 ghost use Rattle.std.specs.Options.{mapped};
-ghost use Rattle.listing.specs.Words.{wordOf};
+ghost use Rattle.listing.specs.Words.{kindWord};
 use scanner::Kind;
 
 // The word of a kind in a token's line: its name, or the bracket itself. The end has a line of its own.
 pub(crate) fn word_of(kind: Kind) -> Option<&'static [u8]>
-    ensures { λ r. ⌜ mapped now r ≡ wordOf kind ⌝ }
+    ensures { λ r. ⌜ mapped now r ≡ kindWord kind ⌝ }
 {
     match kind {
         Kind::End => None,

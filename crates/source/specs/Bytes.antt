@@ -1,6 +1,7 @@
 use mathlib.Core.Bool.{Bool, cond, _||_}
-use Prim.Native.Nat.{ℕ, _-_}
-use lib.Dec.{eqb, leb}
+use mathlib.Core.List.{List, [], _∷_}
+use Prim.Native.Nat.{ℕ, _+_, _-_, _/_, _%_}
+use lib.Dec.{eqb, leb, ltb}
 
 -- the white bytes: null, tab, line feed, form feed, carriage return, blank
 abbrev pub white : ℕ → Bool
@@ -15,3 +16,11 @@ digitValue b =
     (cond (leb b 90) (b - 55)
     (cond (leb b 96) 36
     (cond (leb b 122) (b - 87) 36)))))
+
+-- a hexadecimal digit, with a capital letter
+abbrev pub hexDigit : ℕ → ℕ
+hexDigit d = cond (ltb d 10) (48 + d) (55 + d)
+
+-- a byte as two hexadecimal digits, the high half first
+abbrev pub hexPair : ℕ → List ℕ
+hexPair b = hexDigit (b / 16) ∷ hexDigit (b % 16) ∷ []

@@ -27,7 +27,7 @@ use Rattle.listing.specs.declared.contents.Form.the-variants.{Nothing, Escaped,
 use Rattle.listing.specs.declared.refusal.Refusal.{Refusal}
 use Rattle.listing.specs.Lines.{Prints, spaced, blank, newline, token-by, token-text, flaw-text}
 use Rattle.listing.specs.Shown.{plain, escape, escaped, formOf, shown-by, shown}
-use Rattle.listing.specs.Words.{wordOf}
+use Rattle.listing.specs.Words.{kindWord}
 use Rattle.listing.proofs.LineUses.{length-fault}
 use Rattle.listing.proofs.ShownUses.{length-hexadecimal}
 use Rattle.t1dump.specs.Written.{Wrote}
@@ -76,7 +76,7 @@ abbrev WordShort : Option (List ℕ) → Type 0
 WordShort None = Unit {0}
 WordShort (Some w) = length w ≤ 9
 
-word-short : (k : Kind) → WordShort (wordOf k)
+word-short : (k : Kind) → WordShort (kindWord k)
 word-short kind.End = tt
 word-short kind.Name = omega arith
 word-short kind.Literal = omega arith
@@ -107,7 +107,7 @@ line-short (Some w) xs h =
 
 pub token-short : (t : Token) (content : List ℕ) → mag (t .value) < 4294967296 → length (token-text 0 t content) ≤ 4 * length content + 32
 token-short t content h =
-    omega (arith, line-short (wordOf (t .kind)) (shown t content) (word-short (t .kind)), shown-short (formOf (t .kind)) (t .value) content h)
+    omega (arith, line-short (kindWord (t .kind)) (shown t content) (word-short (t .kind)), shown-short (formOf (t .kind)) (t .value) content h)
 
 damage-small : (d : Harm) → damageNumber d < 100
 damage-small Stray = omega arith

@@ -6,7 +6,7 @@ use lib.Dec.{ltb}
 use lib.ListN.{length, take, drop}
 use native.Mathlib.Omega.{arith}
 use Rattle.std.proofs.shelf.Lists.{length-append, take-at}
-use Rattle.std.proofs.shelf.Tests.{cond-false, or-from, le-ltb}
+use Rattle.std.proofs.shelf.Tests.{cond-false, or-parts, ltb-false}
 use Rattle.std.specs.declared.result.Result.{Result}
 use Rattle.std.specs.declared.result.Result.the-variants.{Ok, Err}
 use Rattle.source.specs.declared.ending.Ending.{Ending}
@@ -30,6 +30,10 @@ use Rattle.scanner.proofs.PieceUses.{steady-take-if}
 use Rattle.scanner.proofs.Scanning.{scans-then, scans-as}
 use Rattle.scanner.proofs.Sound.{count, sound-run}
 use Rattle.scanner.proofs.Steadiness.{SteadyScan, steady-skip, steady-run, steady-hex, steady-doubled, steady-next-token}
+
+-- the bounds of a fit area
+pub fit-bounds : (room : ℕ) → unfit room ≡ false → (128 ≤ room) × (room ≤ 65535)
+fit-bounds room fit = let p = or-parts (ltb room 128) (ltb 65535 room) fit in (ltb-false room 128 (p .0), ltb-false 65535 room (p .1))
 
 abbrev skip-of : List ℕ → Ending → Read (Unit {0})
 skip-of rest e = record { answer = tt; left = skipped false rest; peeked = true }
@@ -74,11 +78,11 @@ module _ {H : Type 0} (m : Model H) (l : Lawful H m) (h h₁ h₂ : H) (old new 
   -- behind white bytes and comments
   pub token-next :
       (r : Result Token Failure) → h₁ ≡ gone-to m h (skipped false (m .rest h)) true → Scans m next-of h₁ old r h₂ new
-      → 128 ≤ length old → length old ≤ 65535 → Scans m token-of h old r h₂ new
-  token-next r x y lo hi =
+      → unfit (length old) ≡ false → Scans m token-of h old r h₂ new
+  token-next r x y fit =
       let z = scans-then m l skip-of h tt h₁ next-of old r h₂ new (steady-skip false (m .rest h)) steady-next-token (record { answer = refl; after = x }) y in
       scans-as m l (λ room rest e. next-of room (skipped false rest) e) h old r h₂ new token-of r (next-of (length old) (skipped false (m .rest h)) (m .ending h)) z
-      (sym (cond-false (unfit (length old)) _ _ (or-from (ltb (length old) 128) (ltb 65535 (length old)) (le-ltb (length old) 128 lo) (le-ltb 65535 (length old) hi))))
+      (sym (cond-false (unfit (length old)) _ _ fit))
       (z .answer) refl refl refl
 
   module _ (b : ℕ) (p : Byte b ≡ first (m .rest h) (m .ending h)) (t : h₁ ≡ m .looked h) where

@@ -1,5 +1,6 @@
 ghost use mathlib.Core.Path.{_≡_};
 ghost use Prim.Native.Nat.{_≤_};
+ghost use lib.Dec.{eqb};
 ghost use lib.ListN.{length};
 ghost use Rattle.scanner.specs.Scan.{Scans};
 ghost use Rattle.scanner.specs.Runs.{run-of};
@@ -12,6 +13,13 @@ use source::Source;
 
 // The most bytes of a run.
 const MOST: usize = 127;
+
+// Whether a run has no room for one more byte.
+fn is_full(n: usize) -> bool
+    ensures { λ r. ⌜ r ≡ eqb n 127 ⌝ }
+{
+    n == MOST
+}
 
 // Reads a run of regular bytes into the area, and takes the one white byte behind it.
 pub(crate) fn run<S: Source>(source: &mut S, area: &mut [u8]) -> Result<usize, Failure>
@@ -32,7 +40,7 @@ pub(crate) fn run<S: Source>(source: &mut S, area: &mut [u8]) -> Result<usize, F
             }
             Class::Regular => {
                 source.take();
-                if n == MOST {
+                if is_full(n) {
                     return Err(Failure::of(Cause::Limit, n));
                 }
                 area[n] = b;

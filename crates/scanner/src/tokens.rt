@@ -5,7 +5,7 @@ ghost use Rattle.source.specs.Reads.{Reads};
 ghost use Rattle.scanner.specs.Scan.{Scans};
 ghost use Rattle.scanner.specs.Examples.{Examples};
 ghost use Rattle.scanner.specs.TokenLaws.{TokenLaws};
-ghost use Rattle.scanner.specs.Tokens.{startOf, endedToken, judgedOf, word-of, slash, name-of, string-token-of, hex-token-of, doubled-of, less-of, greater-of, next-of, token-of};
+ghost use Rattle.scanner.specs.Tokens.{startOf, endedToken, judgedOf, word-of, slash, name-of, string-token-of, hex-token-of, doubled-of, less-of, greater-of, unfit, next-of, token-of};
 use crate::bytes::take_if;
 use crate::failure::Failure;
 use crate::hex::hex_string;
@@ -195,6 +195,13 @@ fn next_token<S: Source>(source: &mut S, area: &mut [u8]) -> Result<Token, Failu
     }
 }
 
+// Whether a text area of this size is refused.
+fn is_unfit(room: usize) -> bool
+    ensures { λ r. ⌜ r ≡ unfit room ⌝ }
+{
+    room < 128 || room > 65535
+}
+
 // The next token, behind white bytes and comments, with its content at the start of the area. Refused where the area is
 // under 128 or over 65,535 bytes.
 pub fn read_token<S: Source>(source: &mut S, area: &mut [u8]) -> Result<Token, Failure>
@@ -202,7 +209,7 @@ pub fn read_token<S: Source>(source: &mut S, area: &mut [u8]) -> Result<Token, F
     ensures laws { λ _. ⌜ TokenLaws ⌝ }
     ensures examples { λ _. ⌜ Examples ⌝ }
 {
-    if area.len() < 128 || area.len() > 65535 {
+    if is_unfit(area.len()) {
         return Err(Failure::Area);
     }
     skip(source);

@@ -5,6 +5,7 @@ use native.Mathlib.Omega.{arith}
 use Prim.Native.Nat.{ℕ, _+_, _<_}
 use lib.ListN.{length, take, set}
 use Rattle.std.proofs.shelf.Lists.{take-more-set}
+use Rattle.std.proofs.shelf.Tests.{eqb-true, eqb-false}
 use Rattle.source.specs.Gone.{gone-to}
 use Rattle.source.proofs.Walk.{walk-start, walk-took, took-fewer, walk-stop-took, walk-stop-looked, walk-stop-end, look-take}
 use Rattle.std.specs.declared.result.Result.the-variants.{Ok, Err}
@@ -43,10 +44,10 @@ loop-b-again g c =
     let k : n < length area = omega (arith, c .loop-b .kept .area, c .loop-b .inv .2) in (
       walk-took m l _ x _ _ x₂ b (run-at (take (n + 1) (set area n b))) (c .loop-b .inv .0) (c .in-Byte .ensures tt .answer)
           (look-take m l x _ x₂ (c .look .ensures .after) (c .take-in-Regular .ensures .after))
-          (sym (run-more (take n area) b (m .rest x₂) (c .in-Regular .ensures tt) (λ e. c .if-n-eq-MOST .left (sym (written-count _ _ n (c .loop-b .inv .1)) ∙ e)))
+          (sym (run-more (take n area) b (m .rest x₂) (c .in-Regular .ensures tt) (λ e. eqb-false _ 127 (sym (c .if-is-full .ensures tt)) (sym (written-count _ _ n (c .loop-b .inv .1)) ∙ e)))
           ∙ ap (λ d. run-at d (m .rest x₂)) (sym (take-more-set area n b k))),
       written-more _ area n b (c .loop-b .inv .1) k,
-      omega (arith, c .loop-b .inv .2, c .if-n-eq-MOST .left),
+      omega (arith, c .loop-b .inv .2, eqb-false _ 127 (sym (c .if-is-full .ensures tt))),
     )
 
 pub returns-in-End : need.returns-in-End
@@ -70,11 +71,11 @@ returns-in-White g c =
     scans-at m run-of _ _ _ _ _ (c .loop-b .n) _ (run-class White _ (c .in-Byte .b) _ (c .in-White .ensures tt) ∙ s .0) (c .loop-b .inv .1) refl
     (ap Ok (sym (written-count _ _ _ (c .loop-b .inv .1)))) (s .1)
 
-pub returns-then-n-eq-MOST : need.returns-then-n-eq-MOST
-returns-then-n-eq-MOST g c =
+pub returns-then-is-full : need.returns-then-is-full
+returns-then-is-full g c =
     let m = g .S·Source .model in
     let l = g .S·Source .lawful in
     let x = g .S·Source .held (c .loop-b .source) in
     let s = walk-stop-took m l _ x _ _ _ (c .in-Byte .b) (c .loop-b .inv .0) (c .in-Byte .ensures tt .answer) (look-take m l x _ _ (c .look .ensures .after) (c .take-in-Regular .ensures .after)) in
-    scans-at m run-of _ _ _ _ _ (c .loop-b .n) _ (run-full _ (c .in-Byte .b) _ (c .in-Regular .ensures tt) (written-count _ _ _ (c .loop-b .inv .1) ∙ c .if-n-eq-MOST .taken) ∙ s .0) (c .loop-b .inv .1) refl
+    scans-at m run-of _ _ _ _ _ (c .loop-b .n) _ (run-full _ (c .in-Byte .b) _ (c .in-Regular .ensures tt) (written-count _ _ _ (c .loop-b .inv .1) ∙ eqb-true _ 127 (sym (c .if-is-full .ensures tt))) ∙ s .0) (c .loop-b .inv .1) refl
     (ap Err (c .of .ensures ∙ ap (Fault (faulty Limit)) (sym (written-count _ _ _ (c .loop-b .inv .1))))) (s .1)

@@ -10,7 +10,7 @@ use Rattle.std.specs.declared.option.Option.{Option}
 use Rattle.std.specs.declared.option.Option.the-variants.{Some, None}
 use Rattle.std.specs.declared.result.Result.{Result}
 use Rattle.std.specs.declared.result.Result.the-variants.{Ok, Err}
-use Rattle.std.proofs.shelf.Tests.{cond-both, cond-false, leb-true, leb-false}
+use Rattle.std.proofs.shelf.Tests.{cond-both, leb-true, leb-false}
 use Rattle.std.proofs.shelf.Ways.{tells}
 use Rattle.source.specs.declared.ending.Ending.{Ending}
 use Rattle.source.specs.declared.ending.Ending.the-variants.{Clean, Damaged}
@@ -39,6 +39,7 @@ use Rattle.scanner.specs.Takes.{take-if-of}
 use Rattle.scanner.specs.Tokens.{startOf, endedToken, judged-by, judgedOf, worded, as-word, word-of, tokened, as-token, slash, name-of, doubled-of, doubled-by, bare, bare-fault, less-by, less-of, hex-token-of, greater-by, greater-of, unfit, next-by, next-of, token-of}
 use Rattle.scanner.specs.AnswerLaw.{said, InRange, KindValue, Valued, AnswerLaw}
 use Rattle.scanner.proofs.Sound.{count, sound-run, sound-string, sound-hex}
+use Rattle.scanner.proofs.TokenUses.{fit-token}
 use Rattle.scanner.proofs.Steadiness.{steady-skip, steady-string, steady-name, steady-less, steady-doubled, steady-next-token}
 
 -- the count of an answer
@@ -261,9 +262,6 @@ next-takes start.Stray room b bs e q = omega arith
 next-falls : (room : ℕ) (rest : List ℕ) (e : Ending) → 0 < length rest → length (next-of room rest e .left) < length rest
 next-falls room [] e h = let no-way : ⊥ = omega arith in absurd no-way
 next-falls room (b ∷ bs) e h = omega (arith, next-takes (startOf b) room b bs e refl)
-
-fit-token : (room : ℕ) (rest : List ℕ) (e : Ending) → unfit room ≡ false → token-of room rest e ≡ next-of room (skipped false rest) e
-fit-token room rest e fit = cond-false (unfit room) _ _ fit
 
 pub answer-law : AnswerLaw
 answer-law = record {

@@ -19,7 +19,7 @@ use Rattle.scanner.specs.Numbers.{sign, behind-one, behind-sign, negative, sig
 use Rattle.scanner.specs.FigureLaw.{worth, Figures, FigureLaw}
 
 -- a decimal digit is no sign and no #
-digit-tells : (b : ℕ) → digitValue b < 10 → (sign b ≡ false) × (eqb b 45 ≡ false) × (eqb b 35 ≡ false)
+pub digit-tells : (b : ℕ) → digitValue b < 10 → (sign b ≡ false) × (eqb b 45 ≡ false) × (eqb b 35 ≡ false)
 digit-tells b h = (grind (arith, tells), grind (arith, tells), grind (arith, tells))
 
 more-worth : (v base d p w : ℕ) → (v * base + d) * p + w ≡ v * (p * base) + (d * p + w)
@@ -41,11 +41,11 @@ some-worth base (b ∷ bs) h f =
     digits-worth base 0 (b ∷ bs) f ∙ ap Some (let e : 0 * base ^ length (b ∷ bs) + worth base (b ∷ bs) ≡ worth base (b ∷ bs) = omega arith in e)
 
 -- figures have no sign before them
-figures-bare : (s : List ℕ) → Figures 10 s → (behind-sign s ≡ s) × (negative s ≡ false)
+pub figures-bare : (s : List ℕ) → Figures 10 s → (behind-sign s ≡ s) × (negative s ≡ false)
 figures-bare [] f = (refl, refl)
 figures-bare (b ∷ bs) f = (cond-false (sign b) bs (b ∷ bs) (digit-tells b (f .0) .0), digit-tells b (f .0) .1)
 
-figures-all : (s : List ℕ) → Figures 10 s → behind-digits s ≡ []
+pub figures-all : (s : List ℕ) → Figures 10 s → behind-digits s ≡ []
 figures-all [] f = refl
 figures-all (b ∷ bs) f = cond-true (ltb (digitValue b) 10) _ _ (lt-ltb (digitValue b) 10 (f .0)) ∙ figures-all bs (f .1)
 

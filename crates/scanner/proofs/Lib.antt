@@ -16,3 +16,5 @@ pub mod Worked
 pub mod AnswerLawful
 pub mod StartLawful
 pub mod HexLawful
+pub mod SpaceLawful
+pub mod RealLawful

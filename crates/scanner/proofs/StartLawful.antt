@@ -48,4 +48,10 @@ start-law = record {
       cond-false (unfit room) _ _ fit ∙ (ap (λ r. next-of room r e) (stays b bs (t .0) (s .0)) ∙ ap (λ k. next-by k room b bs e) (s .1));
   literals = λ room b bs e fit ne. cond-false (unfit room) _ _ fit ∙ slashed room b bs e false (ne-eqb b 47 ne);
   immediates = λ room bs e fit. cond-false (unfit room) _ _ fit;
+  open-array = λ room bs e fit. cond-false (unfit room) _ _ fit;
+  close-array = λ room bs e fit. cond-false (unfit room) _ _ fit;
+  open-procedure = λ room bs e fit. cond-false (unfit room) _ _ fit;
+  close-procedure = λ room bs e fit. cond-false (unfit room) _ _ fit;
+  open-dictionary = λ room bs e fit. cond-false (unfit room) _ _ fit;
+  close-dictionary = λ room bs e fit. cond-false (unfit room) _ _ fit;
 }

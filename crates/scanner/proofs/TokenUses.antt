@@ -35,6 +35,10 @@ use Rattle.scanner.proofs.Steadiness.{SteadyScan, steady-skip, steady-run, ste
 pub fit-bounds : (room : ℕ) → unfit room ≡ false → (128 ≤ room) × (room ≤ 65535)
 fit-bounds room fit = let p = or-parts (ltb room 128) (ltb 65535 room) fit in (ltb-false room 128 (p .0), ltb-false 65535 room (p .1))
 
+-- a token with a fit area
+pub fit-token : (room : ℕ) (rest : List ℕ) (e : Ending) → unfit room ≡ false → token-of room rest e ≡ next-of room (skipped false rest) e
+fit-token room rest e fit = cond-false (unfit room) _ _ fit
+
 abbrev skip-of : List ℕ → Ending → Read (Unit {0})
 skip-of rest e = record { answer = tt; left = skipped false rest; peeked = true }
 

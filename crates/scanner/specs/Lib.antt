@@ -15,7 +15,9 @@ pub mod Tokens
 pub mod RunLaw
 pub mod StringLaw
 pub mod FigureLaw
+pub mod RealLaw
 pub mod AnswerLaw
+pub mod SpaceLaw
 pub mod StartLaw
 pub mod HexLaw
 pub mod TokenLaws

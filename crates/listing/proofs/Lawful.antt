@@ -4,7 +4,7 @@ use mathlib.Core.Logic.{inl, inr}
 use mathlib.Core.List.{List, [], _∷_, _++_}
 use native.Mathlib.Omega.{arith}
 use borrow.Author.Needs.{needs}
-use Prim.Native.Nat.{ℕ, _+_, _/_, _%_, _^_, _<_, _≤_}
+use Prim.Native.Nat.{ℕ, suc, _+_, _-_, _*_, _/_, _%_, _^_, _<_, _≤_}
 use lib.ListN.{length, getD}
 use Rattle.std.specs.Written.{decimal}
 use Rattle.std.specs.Reads.{Digits}
@@ -15,23 +15,42 @@ use Rattle.std.specs.Joined.{joined}
 use Rattle.std.proofs.shelf.Ways.{tells}
 use Rattle.std.proofs.shelf.Numerals.{Numerals, TellsDigits, tells-by-index, numerals-by-weight}
 use Rattle.std.proofs.shelf.Decimals.{decimal-some, decimal-digit, digits-decimal, value-decimal, first-decimal}
-use Rattle.source.specs.Bytes.{hexDigit, hexPair}
+use Rattle.source.specs.Bytes.{digitValue, hexDigit, hexPair}
+use Rattle.scanner.specs.FigureLaw.{worth, Figures}
 use Rattle.listing.specs.Shown.{plain, escape, escaped, hexadecimal}
-use Rattle.listing.specs.Laws.{worth, Figures, Decimals, ToldApart}
+use Rattle.listing.specs.Laws.{Decimals, ToldApart}
 
-own : Numerals (λ ds. (i : ℕ) → i < length ds → In 48 57 (getD ds i 0)) worth
-own = numerals-by-weight _ tells-by-index worth (search needs)
+-- the worth of decimal figures, as the library weighs them
+abbrev weight : List ℕ → ℕ
+weight [] = 0
+weight (c ∷ cs) = (c - 48) * 10 ^ length cs + weight cs
+
+own : Numerals (λ ds. (i : ℕ) → i < length ds → In 48 57 (getD ds i 0)) weight
+own = numerals-by-weight _ tells-by-index weight (search needs)
+
+figure-value : (c : ℕ) → 48 ≤ c → c ≤ 57 → digitValue c ≡ c - 48
+figure-value c p q = grind (arith, tells)
+
+figures-weigh : (ds : List ℕ) → ((i : ℕ) → i < length ds → In 48 57 (getD ds i 0)) → Figures 10 ds × (worth 10 ds ≡ weight ds)
+figures-weigh [] f = (tt, refl)
+figures-weigh (c ∷ cs) f =
+    let here = f 0 (omega arith) in
+    let v : digitValue c ≡ c - 48 = figure-value c (here .0) (here .1) in
+    let rest = figures-weigh cs (λ i h. f (suc i) (omega arith)) in
+    ((let k : digitValue c < 10 = omega (arith, here .1) in k, rest .0), ap₂ (λ d w. d * 10 ^ length cs + w) v (rest .1))
 
 pub decimals : Decimals
-decimals n h = record {
-  some = decimal-some n h;
-  each = digits-decimal own n h;
-  number = value-decimal own n h;
-  first = λ e. elim (cases-lt 0 n) [
-    | inl k ↦ let no : ⊥ = omega (arith, first-decimal n k h) in absurd no
-    | inr k ↦ (omega arith, ap length (decimal-digit n (omega arith)))
-  ];
-}
+decimals n h =
+    let figures = figures-weigh (decimal n) (digits-decimal own n h) in
+    record {
+      some = decimal-some n h;
+      each = figures .0;
+      number = figures .1 ∙ value-decimal own n h;
+      first = λ e. elim (cases-lt 0 n) [
+        | inl k ↦ let no : ⊥ = omega (arith, first-decimal n k h) in absurd no
+        | inr k ↦ (omega arith, ap length (decimal-digit n (omega arith)))
+      ];
+    }
 
 -- a byte that is shown as it is, and one that is not
 as-it-is : (x : ℕ) → plain x ≡ true → escape x ≡ x ∷ []

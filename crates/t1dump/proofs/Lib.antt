@@ -1,2 +1,3 @@
 pub mod ShortLines
 pub mod ListUses
+pub mod Worked

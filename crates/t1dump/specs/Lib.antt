@@ -2,3 +2,4 @@ pub mod Texts
 pub mod Written
 pub mod Listed
 pub mod LinesLaw
+pub mod Examples

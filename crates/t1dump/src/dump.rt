@@ -1,6 +1,7 @@
 ghost use mathlib.Core.Path.{_≡_};
 ghost use Rattle.std.specs.Of.Vec.{vec-items};
 ghost use Rattle.std.specs.Vec.{made};
+ghost use Rattle.t1dump.specs.Examples.{Examples};
 ghost use Rattle.t1dump.specs.LinesLaw.{LinesLaw};
 ghost use Rattle.source.specs.declared.ending.Ending.the-variants.{Clean};
 ghost use Rattle.t1dump.specs.Texts.{lines-of, printed};
@@ -40,6 +41,7 @@ fn list_input(heap: Global, input: &[u8]) -> Result<Vec<u8>, AllocError>
 pub(crate) fn dump_input(heap: Global, input: &[u8]) -> Result<Vec<u8>, AllocError>
     ensures prints { λ r. ⌜ made r (λ out. vec-items out ≡ printed (now (input .entry))) ⌝ }
     ensures law { λ _. ⌜ LinesLaw ⌝ }
+    ensures examples { λ _. ⌜ Examples ⌝ }
 {
     if input.len() > LIMIT {
         Vec::from_slice(heap, b"too large\n")

@@ -10,6 +10,6 @@ pub returns : goal.returns
 returns t c =
     let more = length_decimal_more c.args.n c.if-n-lt10.false (omega arith) in
     record {
-      is = omega (arith, c.number-size.ensures.is, more);
-      bound = omega (arith, c.number-size.ensures.is, more, length-decimal-le 10 c.args.n (omega arith) (omega arith) (omega arith));
+      is = omega (arith, c.number_size.ensures.is, more);
+      bound = omega (arith, c.number_size.ensures.is, more, length-decimal-le 10 c.args.n (omega arith) (omega arith) (omega arith));
     }

@@ -7,11 +7,11 @@ use Rattle.listing.proofs.LineUses.{spaced_least, spaced_none, spaced_some, toke
 use Rattle.listing.proofs.lines.print_token.Goals as goal
 use Rattle.listing.proofs.lines.print_token.Goals.{then-size-eq0, else-size-eq0}
 
-pub returns-in-default : goal.returns-in-default
-returns-in-default c =
+pub returns-in_default : goal.returns-in_default
+returns-in_default c =
     let xs = shown c.args.token c.args.content.now in
     let area = c.args.line.now in
-    let over = not_fits_back (length area) (length xs) c.in-default.ensures in
+    let over = not_fits_back (length area) (length xs) c.in_default.ensures in
     token_refused c.args.level c.args.word.now xs c.args.level refl area (omega (arith, over, spaced_least xs))
 
 pub returns-then-line-size : goal.returns-then-line-size
@@ -26,9 +26,9 @@ returns-then-line-size c =
       | else-size-eq0 w ↦ omega (arith, kept.0, w.rest-is, ap length (spaced_some xs (λ e. w.if-size-eq0.false (kept.0 ∙ e))))
     ] in
     token_refused c.args.level c.args.word.now xs c.from-level.result c.from-level.ensures area
-    (omega (arith, kept.0, kept.1, tail, c.if-line-size.true, c.number-size.ensures.is))
+    (omega (arith, kept.0, kept.1, tail, c.if-line-size.true, c.number_size.ensures.is))
 
 pub returns : goal.returns
 returns c =
     token_printed c.args.level c.args.word.now (shown c.args.token c.args.content.now) c.from-level.result c.from-level.ensures
-    (placed_then (placed_then (placed_then (placed_then c.put-number-at.ensures c.put-byte-at.ensures) c.put-bytes-at.ensures) c.put-content-at.ensures) c.put-byte.ensures)
+    (placed_then (placed_then (placed_then (placed_then c.put_number-at.ensures c.put_byte-at.ensures) c.put_bytes-at.ensures) c.put_content-at.ensures) c.put_byte.ensures)

@@ -11,5 +11,5 @@ returns-then-size-eq0 c =
 
 pub returns : goal.returns
 returns c =
-    placed_as (placed_then c.put-byte-behind.ensures c.put-shown.ensures)
+    placed_as (placed_then c.put_byte-behind.ensures c.put_shown.ensures)
     (spaced_some (shown c.args.token c.args.content.now) (λ e. c.if-size-eq0.false (c.requires.sized ∙ e)))

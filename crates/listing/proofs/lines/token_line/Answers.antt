@@ -8,14 +8,14 @@ use Rattle.listing.proofs.lines.token_line.Goals as goal
 
 pub returns-in-None : goal.returns-in-None
 returns-in-None c = record {
-  prints = prints_as c.print-end.ensures (ap (λ o. token_by o c.args.level (shown c.args.token c.args.content.now)) c.in-None.ensures);
+  prints = prints_as c.print_end.ensures (ap (λ o. token_by o c.args.level (shown c.args.token c.args.content.now)) c.in-None.ensures);
   examples = examples;
   apart = told_apart;
 }
 
 pub returns-in-Some : goal.returns-in-Some
 returns-in-Some c = record {
-  prints = prints_as c.print-token.ensures (ap (λ o. token_by o c.args.level (shown c.args.token c.args.content.now)) c.in-Some.ensures);
+  prints = prints_as c.print_token.ensures (ap (λ o. token_by o c.args.level (shown c.args.token c.args.content.now)) c.in-Some.ensures);
   examples = examples;
   apart = told_apart;
 }

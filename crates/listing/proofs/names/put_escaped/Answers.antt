@@ -7,5 +7,5 @@ use Rattle.listing.proofs.names.put_escaped.Goals as goal
 pub returns : goal.returns
 returns c =
     placed_as
-    (placed_then (placed_then (placed_then c.put-byte-high.ensures c.put-byte-middle.ensures) c.put-byte-low.ensures) c.put-byte-2.ensures)
-    (sym (cond-false (plain c.args.b) _ _ (sym c.if-is-plain.ensures)))
+    (placed_then (placed_then (placed_then c.put_byte-high.ensures c.put_byte-middle.ensures) c.put_byte-low.ensures) c.put_byte-2.ensures)
+    (sym (cond-false (plain c.args.b) _ _ (sym c.if-is_plain.ensures)))

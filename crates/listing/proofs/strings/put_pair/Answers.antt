@@ -4,4 +4,4 @@ use Rattle.listing.proofs.strings.put_pair.Goals as goal
 
 pub returns : goal.returns
 returns c =
-    placed_as (placed_then c.put-byte-low.ensures c.put-byte.ensures) (ap₂ (λ h l. h ∷ l ∷ []) c.hex-digit.ensures c.hex-digit-2.ensures)
+    placed_as (placed_then c.put_byte-low.ensures c.put_byte.ensures) (ap₂ (λ h l. h ∷ l ∷ []) c.hex_digit.ensures c.hex_digit-2.ensures)

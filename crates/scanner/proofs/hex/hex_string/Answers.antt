@@ -12,7 +12,7 @@ returns-in-Done g c = hexed_done g.S.Source.model g.S.Source.lawful _ _ _ _ _ _ 
 
 pub returns-in-Stray : goal.returns-in-Stray
 returns-in-Stray g c =
-    subst (λ r. Scans g.S.Source.model hex_of (g.S.Source.held c.args.source.now) c.args.area.now (Err r) (g.S.Source.held c.next-byte.new.source) c.loop-b.area) (sym c.of.ensures)
+    subst (λ r. Scans g.S.Source.model hex_of (g.S.Source.held c.args.source.now) c.args.area.now (Err r) (g.S.Source.held c.next_byte.new.source) c.loop-b.area) (sym c.of.ensures)
     (hexed_stray g.S.Source.model g.S.Source.lawful _ _ _ _ _ _ c.loop-b.pending c.in-Ok.b c.loop-b.invariant c.in-Ok.ensures c.in-Stray.ensures.is)
 
 pub loop-b-preserved-in-Wait : goal.loop-b-preserved-in-Wait
@@ -21,7 +21,7 @@ loop-b-preserved-in-Wait g c = hexed_wait g.S.Source.model g.S.Source.lawful _ _
 pub returns-then-n-area : goal.returns-then-n-area
 returns-then-n-area g c =
     let e : c.loop-b.n ≡ length c.args.area.now = omega (arith, c.if-n-area.true, c.loop-b.auto.area) in
-    subst (λ r. Scans g.S.Source.model hex_of (g.S.Source.held c.args.source.now) c.args.area.now (Err r) (g.S.Source.held c.next-byte.new.source) c.loop-b.area) (sym c.of-then-n-area.ensures)
+    subst (λ r. Scans g.S.Source.model hex_of (g.S.Source.held c.args.source.now) c.args.area.now (Err r) (g.S.Source.held c.next_byte.new.source) c.loop-b.area) (sym c.of-then-n-area.ensures)
     (hexed_put_full g.S.Source.model g.S.Source.lawful _ _ _ _ _ _ c.loop-b.pending c.in-Ok.b c.loop-b.invariant c.in-Ok.ensures c.in-Put.v c.in-Put.ensures.is e)
 
 pub loop-b-preserved : goal.loop-b-preserved
@@ -33,7 +33,7 @@ loop-b-preserved g c =
 pub returns-then-n-area-2 : goal.returns-then-n-area-2
 returns-then-n-area-2 g c =
     let e : c.loop-b.n ≡ length c.args.area.now = omega (arith, c.if-n-area-2.true, c.loop-b.auto.area) in
-    subst (λ r. Scans g.S.Source.model hex_of (g.S.Source.held c.args.source.now) c.args.area.now (Err r) (g.S.Source.held c.next-byte.new.source) c.loop-b.area) (sym c.of-then-n-area-2.ensures)
+    subst (λ r. Scans g.S.Source.model hex_of (g.S.Source.held c.args.source.now) c.args.area.now (Err r) (g.S.Source.held c.next_byte.new.source) c.loop-b.area) (sym c.of-then-n-area-2.ensures)
     (hexed_last_full g.S.Source.model g.S.Source.lawful _ _ _ _ _ _ c.loop-b.pending c.in-Ok.b c.loop-b.invariant c.in-Ok.ensures c.in-Last.v c.in-Last.ensures.is e)
 
 pub returns-in-Last : goal.returns-in-Last

@@ -12,9 +12,9 @@ returns-in-Return g c =
     let m = g.S.Source.model in
     let l = g.S.Source.lawful in
     let h = g.S.Source.held c.args.source.now in
-    let a = c.in-ok-b.ensures in
-    let b = reads_then m l byte_of h _ _ (take_if_of 10) c.take-if.result _ (steady_byte _ _) (steady_take_if 10) a c.take-if.ensures in
-    reads_as m l _ h _ _ escape_of (Ok piece.Nothing) _ b (escape_at (m.rest h) (m.ending h) c.in-ok-b.b escape.Return a.answer c.in-Return.ensures.is) refl refl refl
+    let a = c.in_ok-b.ensures in
+    let b = reads_then m l byte_of h _ _ (take_if_of 10) c.take_if.result _ (steady_byte _ _) (steady_take_if 10) a c.take_if.ensures in
+    reads_as m l _ h _ _ escape_of (Ok piece.Nothing) _ b (escape_at (m.rest h) (m.ending h) c.in_ok-b.b escape.Return a.answer c.in-Return.ensures.is) refl refl refl
 
 pub returns-in-Octal : goal.returns-in-Octal
 returns-in-Octal g c =
@@ -22,6 +22,6 @@ returns-in-Octal g c =
     let l = g.S.Source.lawful in
     let h = g.S.Source.held c.args.source.now in
     let d = c.in-Octal.d in
-    let a = c.in-ok-b.ensures in
-    let b = reads_then m l byte_of h _ _ (number_of d) c.octal-number.result _ (steady_byte _ _) (steady_number d) a c.octal-number.ensures in
-    reads_as m l _ h _ _ escape_of _ _ b (escape_at (m.rest h) (m.ending h) c.in-ok-b.b (escape.Octal d) a.answer c.in-Octal.ensures.is) (ap (λ v. Ok (piece.Plain v)) b.answer) refl refl
+    let a = c.in_ok-b.ensures in
+    let b = reads_then m l byte_of h _ _ (number_of d) c.octal_number.result _ (steady_byte _ _) (steady_number d) a c.octal_number.ensures in
+    reads_as m l _ h _ _ escape_of _ _ b (escape_at (m.rest h) (m.ending h) c.in_ok-b.b (escape.Octal d) a.answer c.in-Octal.ensures.is) (ap (λ v. Ok (piece.Plain v)) b.answer) refl refl

@@ -11,6 +11,6 @@ returns-in-Escape g c =
     let m = g.S.Source.model in
     let l = g.S.Source.lawful in
     let h = g.S.Source.held c.args.source.now in
-    let a = c.in-ok-b.ensures in
+    let a = c.in_ok-b.ensures in
     let b = reads_then m l byte_of h _ _ escape_of c.escaped.result _ (steady_byte _ _) steady_escape a c.escaped.ensures in
-    reads_as m l _ h _ _ piece_of _ _ b (piece_at (m.rest h) (m.ending h) c.in-ok-b.b opening.Escape a.answer c.in-Escape.ensures) b.answer refl refl
+    reads_as m l _ h _ _ piece_of _ _ b (piece_at (m.rest h) (m.ending h) c.in_ok-b.b opening.Escape a.answer c.in-Escape.ensures) b.answer refl refl

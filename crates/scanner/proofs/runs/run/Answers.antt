@@ -38,10 +38,10 @@ loop-b-preserved g c =
     let k : n < length area = omega (arith, c.loop-b.auto.area, c.loop-b.invariant.2) in (
       walk_took m l _ x _ _ x₂ b (run_at (take (n + 1) (set area n b))) c.loop-b.invariant.0 c.in-Byte.ensures.answer
           (look_take m l x _ x₂ c.look.ensures.after c.take-in-Regular.ensures.after)
-          (sym (run_more (take n area) b (m.rest x₂) c.in-Regular.ensures (λ e. eqb-false _ 127 (sym c.if-is-full.ensures) (sym (written_count _ _ n c.loop-b.invariant.1) ∙ e)))
+          (sym (run_more (take n area) b (m.rest x₂) c.in-Regular.ensures (λ e. eqb-false _ 127 (sym c.if-is_full.ensures) (sym (written_count _ _ n c.loop-b.invariant.1) ∙ e)))
           ∙ ap (λ d. run_at d (m.rest x₂)) (sym (take_more_set area n b k))),
       written_more _ area n b c.loop-b.invariant.1 k,
-      omega (arith, c.loop-b.invariant.2, eqb-false _ 127 (sym c.if-is-full.ensures)),
+      omega (arith, c.loop-b.invariant.2, eqb-false _ 127 (sym c.if-is_full.ensures)),
     )
 
 pub returns-in-End : goal.returns-in-End
@@ -65,11 +65,11 @@ returns-in-White g c =
     scans_at m run_of _ _ _ _ _ c.loop-b.n _ (run_class White _ c.in-Byte.b _ c.in-White.ensures ∙ s.0) c.loop-b.invariant.1 refl
     (ap Ok (sym (written_count _ _ _ c.loop-b.invariant.1))) s.1
 
-pub returns-then-is-full : goal.returns-then-is-full
-returns-then-is-full g c =
+pub returns-then-is_full : goal.returns-then-is_full
+returns-then-is_full g c =
     let m = g.S.Source.model in
     let l = g.S.Source.lawful in
     let x = g.S.Source.held c.loop-b.source in
     let s = walk_stop_took m l _ x _ _ _ c.in-Byte.b c.loop-b.invariant.0 c.in-Byte.ensures.answer (look_take m l x _ _ c.look.ensures.after c.take-in-Regular.ensures.after) in
-    scans_at m run_of _ _ _ _ _ c.loop-b.n _ (run_full _ c.in-Byte.b _ c.in-Regular.ensures (written_count _ _ _ c.loop-b.invariant.1 ∙ eqb-true _ 127 (sym c.if-is-full.ensures)) ∙ s.0) c.loop-b.invariant.1 refl
+    scans_at m run_of _ _ _ _ _ c.loop-b.n _ (run_full _ c.in-Byte.b _ c.in-Regular.ensures (written_count _ _ _ c.loop-b.invariant.1 ∙ eqb-true _ 127 (sym c.if-is_full.ensures)) ∙ s.0) c.loop-b.invariant.1 refl
     (ap Err (c.of.ensures ∙ ap (Fault (faulty Limit)) (sym (written_count _ _ _ c.loop-b.invariant.1)))) s.1

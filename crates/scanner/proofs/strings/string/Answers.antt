@@ -23,7 +23,7 @@ loop-piece-preserved-in-Pass g c = strung_pass g.S.Source.model g.S.Source.lawfu
 pub returns-then-n-area : goal.returns-then-n-area
 returns-then-n-area g c =
     let e : c.loop-piece.n ≡ length c.args.area.now = omega (arith, c.if-n-area.true, c.loop-piece.auto.area) in
-    subst (λ r. Scans g.S.Source.model string_of (g.S.Source.held c.args.source.now) c.args.area.now (Err r) (g.S.Source.held c.next-piece.new.source) c.loop-piece.area) (sym c.of.ensures) (strung_full g.S.Source.model g.S.Source.lawful _ _ _ _ _ _ c.loop-piece.depth c.in-Ok.piece c.loop-piece.invariant c.in-Ok.ensures c.in-Put.b c.in-Put.to c.in-Put.ensures.is e)
+    subst (λ r. Scans g.S.Source.model string_of (g.S.Source.held c.args.source.now) c.args.area.now (Err r) (g.S.Source.held c.next_piece.new.source) c.loop-piece.area) (sym c.of.ensures) (strung_full g.S.Source.model g.S.Source.lawful _ _ _ _ _ _ c.loop-piece.depth c.in-Ok.piece c.loop-piece.invariant c.in-Ok.ensures c.in-Put.b c.in-Put.to c.in-Put.ensures.is e)
 
 pub loop-piece-smaller : goal.loop-piece-smaller
 loop-piece-smaller g c = strung_fewer g.S.Source.model g.S.Source.lawful _ _ _ _ _ _ c.loop-piece.depth c.in-Ok.piece c.loop-piece.invariant c.in-Ok.ensures

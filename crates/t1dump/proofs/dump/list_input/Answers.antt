@@ -5,16 +5,16 @@ use Rattle.source.specs.declared.ending.Ending.TheVariants.{Clean}
 use Rattle.t1dump.proofs.ListUses.{input_lines}
 use Rattle.t1dump.proofs.dump.list_input.Goals as goal
 
-pub returns-in-err-line : goal.returns-in-err-line
-returns-in-err-line c =
-    let p = err_from_is_err_and c.from-residual-in-err-line.result c.from-residual-in-err-line.ensures.1 in rw p.1 tt
+pub returns-in_err-line : goal.returns-in_err-line
+returns-in_err-line c =
+    let p = err_from_is_err_and c.from_residual-in_err-line.result c.from_residual-in_err-line.ensures.1 in rw p.1 tt
 
-pub returns-in-err-list-all : goal.returns-in-err-list-all
-returns-in-err-list-all c =
-    let p = err_from_is_err_and c.from-residual-in-err-list-all.result c.from-residual-in-err-list-all.ensures.1 in rw p.1 tt
+pub returns-in_err-list_all : goal.returns-in_err-list_all
+returns-in_err-list_all c =
+    let p = err_from_is_err_and c.from_residual-in_err-list_all.result c.from_residual-in_err-list_all.ensures.1 in rw p.1 tt
 
 pub returns : goal.returns
 returns c =
-    let size : length c.as-mut-slice.result.now ≡ 4096 = omega (arith, c.as-mut-slice.ensures.len, c.in-ok-area.ensures.made) in
-    input_lines _ _ (length c.as-mut-slice.result.now) (memory_model.rest (unread c.new-source.result)) c.args.input.now Clean
-    c.new-out.ensures.items size c.new-source.ensures.rest c.in-ok-list-all.ensures
+    let size : length c.as_mut_slice.result.now ≡ 4096 = omega (arith, c.as_mut_slice.ensures.len, c.in_ok-area.ensures.len) in
+    input_lines _ _ (length c.as_mut_slice.result.now) (memory_model.rest (unread c.new-source.result)) c.args.input.now Clean
+    c.new-out.ensures.items size c.new-source.ensures.rest c.in_ok-list_all.ensures

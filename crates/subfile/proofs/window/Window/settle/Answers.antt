@@ -6,8 +6,8 @@ use Rattle.subfile.proofs.window.Window.settle.Goals as goal
 pub returns : goal.returns
 unfolding readyOf comparedOf filledOf
 returns c =
-    let e : take (c.args.self.now.all - c.args.self.now.ready) c.copy-within.new.self ≡ drop c.args.self.now.ready (take c.args.self.now.all c.args.self.now.bytes)
-    = part_moved c.args.self.now.bytes c.copy-within.new.self c.args.self.now.ready c.args.self.now.all (omega arith) c.copy-within.ensures.after in
+    let e : take (c.args.self.now.all - c.args.self.now.ready) c.copy_within.new.self ≡ drop c.args.self.now.ready (take c.args.self.now.all c.args.self.now.bytes)
+    = part_moved c.args.self.now.bytes c.copy_within.new.self c.args.self.now.ready c.args.self.now.all (omega arith) c.copy_within.ensures.after in
     record {
       ready = refl;
       compared = e;

@@ -3,6 +3,8 @@
 // A line is `AREAS ENDING BYTES`: the sizes of the text areas, one for each call, with a `*` behind them if the last
 // one repeats until something else than a token is answered; `clean`, or the number and depth of a damage, as `22/1`;
 // and the bytes of the source, as `2F.61x128.20`. Empty lines and those that begin with `#` are passed over.
+#![tactic(auto)]
+
 mod answer;
 mod case;
 mod given;

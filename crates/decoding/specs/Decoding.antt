@@ -1,4 +1,4 @@
-use Rattle.std.specs.Prelude.{ℕ, zero, suc, ◌+◌, Bool, true, false, ◌||◌, List, [], ◌∷◌, ◌++◌, length, Some, None, Option}
+use Rattle.std.specs.Prelude.{ℕ, zero, suc, ◌+◌, Bool, false, ◌||◌, List, [], ◌++◌, length, Some, None, Option}
 use Rattle.source.specs.declared.ending.Ending.{Ending}
 use Rattle.source.specs.Reads.{Read}
 use Rattle.decoding.specs.Step.{StepOf, Own}

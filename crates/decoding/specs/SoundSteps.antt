@@ -1,9 +1,9 @@
-use Rattle.std.specs.Prelude.{◌≡◌, ℕ, suc, ◌+◌, ◌<◌, ◌≤◌, Bool, true, false, List, [], ◌∷◌, length, Some, None, Option, refl}
+use Rattle.std.specs.Prelude.{◌≡◌, ℕ, ◌+◌, ◌<◌, ◌≤◌, Bool, true, false, List, [], ◌∷◌, length, Some, None, Option, refl}
 use Rattle.std.proofs.Common.{sym, arith}
 use Rattle.source.specs.declared.ending.Ending.{Ending}
 use Rattle.source.specs.Gone.{Behind}
 use Rattle.source.specs.Reads.{Read}
-use Rattle.source.proofs.Going.{behind_self, behind_trans, behind_fewer}
+use Rattle.source.proofs.Going.{behind_self, behind_trans}
 use Rattle.decoding.specs.Step.{Own, Sound, makes, stops}
 
 -- `None` is no `Some`, and `false` is not `true`

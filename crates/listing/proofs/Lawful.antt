@@ -1,15 +1,14 @@
 use Rattle.std.proofs.Common.{◌≡◌, ℕ, suc, ◌+◌, ◌-◌, ◌*◌, ◌/◌, ◌%◌, ◌^◌, ◌<◌, ◌≤◌, true, false, List, [], ◌∷◌, ◌++◌, length, get_or, decimal, sym, refl, ap, ◌∙◌, ap₂, inl, inr, arith, rules}
-use Rattle.std.specs.Str.Parse.{AllDigits}
 use Rattle.std.specs.Int.{IsInRange}
 use Rattle.std.proofs.lemmas.Bool.{cases_Bool, cases_lt, cond-true, cond-false, cond_both, true≢false}
 use Rattle.std.proofs.lemmas.List.{length-append}
 use Rattle.std.specs.List.{flat_map}
 use Rattle.std.proofs.lemmas.Bool.Decides.{nat_tests}
-use Rattle.std.proofs.lemmas.Str.Parse.{IsNumeralModel, IsDigitsTest, tells_by_index, numerals_by_weight}
+use Rattle.std.proofs.lemmas.Str.Parse.{IsNumeralModel, tells_by_index, numerals_by_weight}
 use Rattle.std.proofs.lemmas.Fmt.{decimal_nonempty, decimal_digit, digits_decimal, digits_value-decimal, first_decimal}
 use Rattle.source.specs.Bytes.{digit_value, hex_digit, hex_pair_of}
 use Rattle.scanner.specs.FigureLaw.{worth, Figures}
-use Rattle.listing.specs.Shown.{plain, escape, escaped, hexadecimal}
+use Rattle.listing.specs.Shown.{plain, escape}
 use Rattle.listing.specs.Laws.{Decimals, ToldApart}
 
 -- the worth of decimal figures, as the library weighs them

@@ -1,3 +1,5 @@
+#![tactic(auto)]
+
 mod contents;
 mod decimals;
 mod lines;

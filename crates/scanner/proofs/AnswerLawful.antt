@@ -1,4 +1,4 @@
-use Rattle.std.proofs.Common.{◌≡◌, ℕ, zero, suc, ◌-◌, ◌<◌, ◌≤◌, Bool, true, false, cond, ◌&&◌, eqb, leb, List, [], ◌∷◌, ◌++◌, length, get_or, take, drop, ℤ, pos, negsuc, neg_ℤ, Some, None, Ok, Err, Option, Result, sym, refl, ap, ◌∙◌, subst, arith}
+use Rattle.std.proofs.Common.{◌≡◌, ℕ, zero, suc, ◌-◌, ◌<◌, ◌≤◌, Bool, true, false, cond, ◌&&◌, eqb, leb, List, [], ◌∷◌, length, get_or, take, drop, ℤ, pos, neg_ℤ, Some, None, Ok, Err, Option, Result, refl, ap, ◌∙◌, arith}
 use Rattle.std.proofs.lemmas.Bool.{cond_both, leb-true, leb-false}
 use Rattle.std.proofs.lemmas.Bool.Decides.{nat_tests}
 use Rattle.source.specs.declared.ending.Ending.{Ending}
@@ -25,7 +25,7 @@ use Rattle.scanner.specs.Scan.{Scan}
 use Rattle.scanner.specs.Spaces.{skipped}
 use Rattle.scanner.specs.Strings.{string_of}
 use Rattle.scanner.specs.Takes.{take_if_of}
-use Rattle.scanner.specs.Tokens.{start_of, ended_token, judged_by, judged_of, worded, as_word, word_token_of, tokened, as_token, slash, name_of, doubled_of, doubled_by, bare, bare_fault, less_by, less_of, hex_token_of, greater_by, greater_of, unfit, next_by, next_of, token_of}
+use Rattle.scanner.specs.Tokens.{start_of, ended_token, judged_by, worded, tokened, as_token, slash, doubled_of, doubled_by, bare_fault, less_by, less_of, hex_token_of, greater_by, greater_of, unfit, next_by, next_of, token_of}
 use Rattle.scanner.specs.AnswerLaw.{said, InRange, KindValue, Valued, AnswerLaw}
 use Rattle.scanner.proofs.Sound.{count, sound_run, sound_string, sound_hex}
 use Rattle.scanner.proofs.TokenUses.{fit_token}

@@ -1,10 +1,10 @@
-use Rattle.std.proofs.Common.{◌≡◌, ℕ, suc, ◌+◌, ◌*◌, ◌^◌, ◌<◌, ◌≤◌, Bool, true, false, cond, ◌&&◌, ◌||◌, eqb, ltb, leb, List, [], ◌∷◌, ◌++◌, length, get_or, take, drop, ℤ, pos, neg_ℤ, Some, None, Option, sym, refl, ap, ◌∙◌, subst, ap₂, add_assoc, mul_assoc, mul_comm, add-mul, pow-suc, arith}
+use Rattle.std.proofs.Common.{◌≡◌, ℕ, ◌+◌, ◌*◌, ◌^◌, ◌<◌, ◌≤◌, true, false, cond, ◌&&◌, ◌||◌, eqb, ltb, leb, List, [], ◌∷◌, ◌++◌, length, Some, None, sym, refl, ap, ◌∙◌, ap₂, add_assoc, mul_assoc, mul_comm, add-mul, pow-suc, arith}
 use native.Mathlib.Nat.{pow-zero}
-use Rattle.std.proofs.lemmas.Bool.{cond-true, cond-false, lt-ltb, le-leb, lt-leb, and_from, ne_eqb}
+use Rattle.std.proofs.lemmas.Bool.{cond-true, cond-false, lt-ltb, le-leb, lt-leb, and_from}
 use Rattle.std.proofs.lemmas.Bool.Decides.{nat_tests}
 use Rattle.source.specs.Bytes.{digit_value}
 use Rattle.scanner.specs.declared.words.Word.{Word}
-use Rattle.scanner.specs.declared.words.Word.TheVariants.{Integer, Real, Name}
+use Rattle.scanner.specs.declared.words.Word.TheVariants.{Real, Name}
 use Rattle.scanner.specs.Digits.{digits_behind, digits_of}
 use Rattle.scanner.specs.Numbers.{sign, behind_one, behind_sign, negative, signed_value, integer_of, integer_or, radix_or, radix_in, radix_value, radix_of, twos_of, behind_digits, exponent, real_behind_sign, real_of, word_of}
 use Rattle.scanner.specs.FigureLaw.{worth, Figures, FigureLaw}

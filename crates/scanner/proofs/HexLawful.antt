@@ -1,16 +1,14 @@
-use Rattle.std.proofs.Common.{◌≡◌, ℕ, ◌+◌, ◌*◌, ◌/◌, ◌%◌, ◌<◌, ◌≤◌, Bool, true, false, cond, eqb, ltb, List, [], ◌∷◌, ◌++◌, length, Some, None, Ok, Err, Result, sym, refl, ap, ◌∙◌, ap₂, append_assoc, arith}
+use Rattle.std.proofs.Common.{◌≡◌, ℕ, ◌+◌, ◌*◌, ◌/◌, ◌%◌, ◌<◌, ◌≤◌, false, eqb, ltb, List, [], ◌∷◌, ◌++◌, length, Some, None, sym, refl, ap, ◌∙◌, append_assoc, arith}
 use Rattle.std.specs.List.{flat_map}
 use Rattle.std.proofs.lemmas.List.{append-nil, length-append}
 use Rattle.std.proofs.lemmas.Bool.{cond-true, cond-false, lt-ltb, ne_eqb}
 use Rattle.std.proofs.lemmas.Bool.Decides.{nat_tests}
 use Rattle.source.specs.declared.ending.Ending.{Ending}
 use Rattle.source.specs.Bytes.{digit_value, hex_digit, hex_pair_of}
-use Rattle.scanner.specs.declared.failure.Failure.{Failure}
 use Rattle.scanner.specs.declared.hex.HexByte.TheVariants as byte
 use Rattle.scanner.specs.declared.kinds.Kind.TheVariants.{HexString}
-use Rattle.scanner.specs.HexStrings.{hex_byte_of, hex_turn_of, hex_turn, hex_closed, hex_at, hex_of}
-use Rattle.scanner.specs.Scan.{Scan}
-use Rattle.scanner.specs.Tokens.{as_token, hex_token_of, doubled_by, doubled_of, less_by, less_of, unfit}
+use Rattle.scanner.specs.HexStrings.{hex_byte_of, hex_turn_of, hex_turn, hex_closed, hex_at}
+use Rattle.scanner.specs.Tokens.{as_token, hex_token_of, doubled_by, less_by, less_of, unfit}
 use Rattle.scanner.specs.HexLaw.{Bytes, HexLaw}
 
 -- a figure has its value, and is no <

@@ -1,4 +1,4 @@
-use Rattle.std.proofs.Common.{◌≡◌, ℕ, ◌+◌, ◌<◌, ◌≤◌, Bool, true, false, cond, eqb, List, [], ◌∷◌, ◌++◌, length, take, set, IfSome, Some, None, Ok, Err, Option, Result, sym, refl, ap, ◌∙◌, arith}
+use Rattle.std.proofs.Common.{◌≡◌, ℕ, ◌+◌, ◌<◌, true, false, eqb, List, [], ◌∷◌, length, take, set, IfSome, None, Ok, Err, Option, Result, sym, refl, ap, ◌∙◌, arith}
 use Rattle.std.proofs.lemmas.List.{take_more_set}
 use Rattle.std.proofs.lemmas.Bool.{cond-true, cond-false, eq-eqb, ne_eqb}
 use Rattle.source.specs.declared.ending.Ending.{Ending}
@@ -13,7 +13,6 @@ use Rattle.source.proofs.Walk.{Walk, walk_start}
 use Rattle.source.proofs.Calls.{walk_answer, walk_gone, walk_left, walk_on}
 use Rattle.scanner.specs.declared.failure.Failure.{Failure}
 use Rattle.scanner.specs.declared.failure.Failure.TheVariants as failure
-use Rattle.scanner.specs.declared.hex.HexByte.{HexByte}
 use Rattle.scanner.specs.declared.hex.HexTurn.{HexTurn}
 use Rattle.scanner.specs.declared.hex.HexTurn.TheVariants as turn
 use Rattle.scanner.specs.Scan.{Scan, Scans}

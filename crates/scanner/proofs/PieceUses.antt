@@ -1,4 +1,4 @@
-use Rattle.std.proofs.Common.{◌≡◌, ℕ, Bool, true, false, eqb, List, [], ◌∷◌, Some, None, Ok, Err, Option, sym, refl, ap, ◌∙◌, arith}
+use Rattle.std.proofs.Common.{◌≡◌, ℕ, Bool, true, false, eqb, List, [], ◌∷◌, Some, None, Ok, Option, sym, ap, ◌∙◌, arith}
 use Rattle.source.specs.declared.ending.Ending.{Ending}
 use Rattle.source.proofs.Calls.{Steady, steady_here, steady_next, steady_then}
 use Rattle.scanner.specs.declared.pieces.Escape.{Escape}

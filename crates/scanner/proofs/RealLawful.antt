@@ -1,9 +1,9 @@
-use Rattle.std.proofs.Common.{◌≡◌, ℕ, ◌+◌, ◌<◌, ◌≤◌, Bool, true, false, cond, ◌&&◌, ◌||◌, eqb, ltb, List, [], ◌∷◌, ◌++◌, length, sym, refl, ap, ◌∙◌, subst, ap₂, ⊎_elim, append_assoc, arith}
+use Rattle.std.proofs.Common.{◌≡◌, ℕ, ◌+◌, ◌<◌, ◌≤◌, Bool, true, false, cond, ◌||◌, eqb, ltb, List, [], ◌∷◌, ◌++◌, length, sym, refl, ap, ◌∙◌, subst, ap₂, ⊎_elim, append_assoc, arith}
 use Rattle.std.proofs.lemmas.List.{append-nil, length-append}
-use Rattle.std.proofs.lemmas.Bool.{cond-true, cond-false, lt-ltb, le-ltb, ltb-true, ltb-false, eqb-true, eq-eqb, ne_eqb, and_parts, and_from, or_cases, or_left, or_right, cases_Bool, cases_lt}
+use Rattle.std.proofs.lemmas.Bool.{cond-true, cond-false, lt-ltb, ltb-true, eqb-true, eq-eqb, and_parts, and_from, or_cases, or_left, or_right, cases_Bool, cases_lt}
 use Rattle.std.proofs.lemmas.Bool.Decides.{nat_tests}
 use Rattle.source.specs.Bytes.{digit_value}
-use Rattle.scanner.specs.Numbers.{sign, behind_one, behind_sign, behind_digits, behind_point, only_digits, power, exponent, real_behind_sign, real_of}
+use Rattle.scanner.specs.Numbers.{sign, behind_sign, behind_digits, behind_point, only_digits, power, exponent, real_behind_sign, real_of}
 use Rattle.scanner.specs.FigureLaw.{Figures}
 use Rattle.scanner.specs.RealLaw.{Sign, no_sign, a_sign, Mantissa, pointless, pointed, Exponent, no_exponent, an_exponent, Real, RealLaw}
 use Rattle.scanner.proofs.FigureLawful.{digit_tells, figures_bare, figures_all}

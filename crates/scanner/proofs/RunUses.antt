@@ -1,7 +1,7 @@
-use Rattle.std.proofs.Common.{◌≡◌, ℕ, Bool, true, false, cond, eqb, List, [], ◌∷◌, ◌++◌, length, Ok, Err, sym, ap, ◌∙◌}
+use Rattle.std.proofs.Common.{◌≡◌, ℕ, false, eqb, List, [], ◌∷◌, ◌++◌, length, Err, sym, ap, ◌∙◌}
 use Rattle.std.proofs.lemmas.Bool.{cond-true, cond-false, eq-eqb, ne_eqb}
 use Rattle.scanner.specs.declared.class.Class.{Class}
-use Rattle.scanner.specs.declared.class.Class.TheVariants.{White, Special, Regular}
+use Rattle.scanner.specs.declared.class.Class.TheVariants.{Regular}
 use Rattle.scanner.specs.Classes.{class_of}
 use Rattle.source.specs.declared.fault.Cause.TheVariants.{Limit}
 use Rattle.source.specs.Numbers.{faulty}

@@ -1,4 +1,4 @@
-use Rattle.std.proofs.Common.{◌≡◌, ℕ, Bool, List, [], ◌∷◌, ◌++◌, length, drop, sym, refl, ap, ◌∙◌, ap₂}
+use Rattle.std.proofs.Common.{◌≡◌, ℕ, List, ◌++◌, length, drop, ap, ◌∙◌, ap₂}
 use Rattle.source.specs.declared.ending.Ending.{Ending}
 use Rattle.source.specs.Model.{Model}
 use Rattle.source.specs.Laws.{Lawful}

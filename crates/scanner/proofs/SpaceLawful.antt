@@ -1,9 +1,9 @@
-use Rattle.std.proofs.Common.{◌≡◌, ℕ, Bool, true, false, cond, not, eqb, List, [], ◌∷◌, ◌++◌, Some, None, sym, refl, ap, ◌∙◌, arith}
+use Rattle.std.proofs.Common.{◌≡◌, ℕ, true, false, not, eqb, List, [], ◌∷◌, ◌++◌, sym, refl, ap, ◌∙◌, arith}
 use Rattle.std.proofs.lemmas.Bool.{cond-true, cond-false}
 use Rattle.std.proofs.lemmas.Bool.Decides.{nat_tests}
 use Rattle.source.specs.declared.ending.Ending.{Ending}
 use Rattle.source.specs.Bytes.{white}
-use Rattle.scanner.specs.Spaces.{line_end, passes, skip_by, skipped}
+use Rattle.scanner.specs.Spaces.{line_end, skip_by, skipped}
 use Rattle.scanner.specs.Tokens.{unfit, next_of, token_of}
 use Rattle.scanner.specs.SpaceLaw.{OneLine, SpaceLaw}
 use Rattle.scanner.proofs.TokenUses.{fit_token}

@@ -1,4 +1,4 @@
-use Rattle.std.proofs.Common.{◌≡◌, ℕ, Bool, List, [], ◌∷◌, Some, None, sym, ap}
+use Rattle.std.proofs.Common.{◌≡◌, ℕ, Bool, List, ◌∷◌, Some, None, sym, ap}
 use Rattle.scanner.specs.Spaces.{passes, skip_by, skipped}
 
 pub skip_on : (c o : Bool) (b : ℕ) (bs : List ℕ) → Some o ≡ passes c b → skipped c (b ∷ bs) ≡ skipped o bs

@@ -1,17 +1,15 @@
-use Rattle.std.proofs.Common.{◌≡◌, ℕ, Bool, true, false, cond, ◌||◌, eqb, List, [], ◌∷◌, Some, None, sym, refl, ap, ◌∙◌, arith}
-use Rattle.std.proofs.lemmas.Bool.{cond-true, cond-false, ne_eqb}
+use Rattle.std.proofs.Common.{◌≡◌, ℕ, Bool, true, false, cond, eqb, List, [], ◌∷◌, refl, ap, ◌∙◌, arith}
+use Rattle.std.proofs.lemmas.Bool.{cond-false, ne_eqb}
 use Rattle.std.proofs.lemmas.Bool.Decides.{nat_tests}
 use Rattle.source.specs.declared.ending.Ending.{Ending}
 use Rattle.source.specs.Bytes.{white}
-use Rattle.scanner.specs.declared.class.Class.{Class}
 use Rattle.scanner.specs.declared.class.Class.TheVariants.{White, Special, Regular}
-use Rattle.scanner.specs.declared.tokens.Start.{Start}
 use Rattle.scanner.specs.declared.tokens.Start.TheVariants as start
 use Rattle.scanner.specs.Classes.{special, class_of}
 use Rattle.scanner.specs.Runs.{run_at}
-use Rattle.scanner.specs.Spaces.{passes, skip_by, skipped}
+use Rattle.scanner.specs.Spaces.{skip_by, skipped}
 use Rattle.scanner.specs.Takes.{take_if_by}
-use Rattle.scanner.specs.Tokens.{start_of, as_token, slash, name_of, unfit, next_by, next_of, token_of}
+use Rattle.scanner.specs.Tokens.{start_of, as_token, slash, name_of, unfit, next_by, next_of}
 use Rattle.scanner.specs.StartLaw.{StartLaw}
 
 -- a regular byte is neither white nor special

@@ -1,4 +1,4 @@
-use Rattle.std.proofs.Common.{◌≡◌, ℕ, zero, suc, ◌+◌, ◌<◌, ◌≤◌, Bool, true, false, cond, eqb, List, [], ◌∷◌, ◌++◌, length, take, set, Ok, Err, Result, sym, refl, ap, ◌∙◌, arith}
+use Rattle.std.proofs.Common.{◌≡◌, ℕ, zero, suc, ◌+◌, ◌<◌, ◌≤◌, Bool, eqb, List, [], ◌∷◌, ◌++◌, length, take, set, Ok, Err, Result, sym, refl, ap, ◌∙◌, arith}
 use Rattle.std.proofs.lemmas.List.{take_more_set}
 use Rattle.std.proofs.lemmas.Bool.{cond-true, cond-false, eq-eqb, ne_eqb}
 use Rattle.source.specs.declared.ending.Ending.{Ending}
@@ -11,8 +11,7 @@ use Rattle.source.proofs.Calls.{walk_answer, walk_gone, walk_left, walk_on}
 use Rattle.source.proofs.Going.{behind_fewer}
 use Rattle.source.specs.declared.fault.Cause.TheVariants.{Limit}
 use Rattle.source.specs.declared.fault.Fault.{Fault}
-use Rattle.source.specs.Numbers.{faulty, unended}
-use Rattle.scanner.specs.declared.failure.Failure.{Failure}
+use Rattle.source.specs.Numbers.{faulty}
 use Rattle.scanner.specs.declared.failure.Failure.TheVariants as failure
 use Rattle.scanner.specs.declared.pieces.Opening.{Opening}
 use Rattle.scanner.specs.declared.pieces.Opening.TheVariants as opening

@@ -1,15 +1,14 @@
-use Rattle.std.proofs.Common.{◌≡◌, ℕ, ◌≤◌, Bool, true, false, cond, ◌||◌, ltb, List, [], ◌∷◌, ◌++◌, length, take, drop, Ok, Err, Result, sym, refl, ap, ◌∙◌, ap₂, arith}
+use Rattle.std.proofs.Common.{◌≡◌, ℕ, ◌≤◌, Bool, true, false, ltb, List, [], ◌∷◌, ◌++◌, length, take, drop, Ok, Result, sym, refl, ap, ◌∙◌, ap₂, arith}
 use Rattle.std.proofs.lemmas.List.{length-append, take_at}
 use Rattle.std.proofs.lemmas.Bool.{cond-false, or_parts, ltb-false}
 use Rattle.source.specs.declared.ending.Ending.{Ending}
-use Rattle.source.specs.declared.interface.Next.TheVariants.{Byte, End}
+use Rattle.source.specs.declared.interface.Next.TheVariants.{Byte}
 use Rattle.source.specs.Model.{Model, first}
 use Rattle.source.specs.Laws.{Lawful}
 use Rattle.source.specs.Gone.{gone_to}
 use Rattle.source.specs.Reads.{Read, Reads}
-use Rattle.source.proofs.Calls.{Steady, steady_here, steady_take, take_of, look_of, take_first, reads_take, reads_look}
+use Rattle.source.proofs.Calls.{steady_here, steady_take, take_of, look_of, take_first, reads_take, reads_look}
 use Rattle.scanner.specs.declared.failure.Failure.{Failure}
-use Rattle.scanner.specs.declared.kinds.Kind.{Kind}
 use Rattle.scanner.specs.declared.kinds.Token.{Token}
 use Rattle.scanner.specs.declared.tokens.Start.{Start}
 use Rattle.scanner.specs.declared.tokens.Start.TheVariants as start
@@ -17,7 +16,7 @@ use Rattle.scanner.specs.Scan.{Scan, Scans}
 use Rattle.scanner.specs.Spaces.{skipped}
 use Rattle.scanner.specs.Runs.{run_at, run_of}
 use Rattle.scanner.specs.Takes.{take_if_of}
-use Rattle.scanner.specs.Tokens.{start_of, judged_of, tokened, as_token, slash, worded, word_token_of, name_of, hex_token_of, doubled_of, bare, less_by, less_of, greater_of, unfit, next_by, next_of, token_of}
+use Rattle.scanner.specs.Tokens.{start_of, judged_of, tokened, slash, worded, word_token_of, name_of, hex_token_of, doubled_of, bare, less_by, less_of, unfit, next_by, next_of, token_of}
 use Rattle.scanner.proofs.PieceUses.{steady_take_if}
 use Rattle.scanner.proofs.Scanning.{scans_then, scans_as}
 use Rattle.scanner.proofs.Sound.{count, sound_run}

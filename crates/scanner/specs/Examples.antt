@@ -1,6 +1,5 @@
 use Rattle.std.specs.Prelude.{◌≡◌, ℕ, Bool, true, false, List, [], ◌∷◌, ◌++◌, length, replicate, ℤ, pos, negsuc, Ok, Err, codes, Result}
 use Rattle.source.specs.declared.ending.Damage.TheVariants.{CutShort}
-use Rattle.source.specs.declared.ending.Ending.{Ending}
 use Rattle.source.specs.declared.ending.Ending.TheVariants.{Clean, Damaged}
 use Rattle.source.specs.declared.fault.Cause.TheVariants.{Limit, Unended, RadixRange, StrayInHex, StrayDelimiter}
 use Rattle.source.specs.declared.fault.Fault.{Fault}

@@ -1,7 +1,6 @@
 use Rattle.std.specs.Prelude.{ℕ, List, length}
 use Rattle.source.specs.declared.fault.Fault.{Fault as Flaw}
-use Rattle.source.specs.declared.fault.Cause.{Cause}
-use Rattle.source.specs.Numbers.{fault_number, faulty}
+use Rattle.source.specs.Numbers.{fault_number}
 use Rattle.scanner.specs.declared.failure.Failure.{Failure}
 use Rattle.scanner.specs.declared.failure.Failure.TheVariants.{Area, Fault}
 

@@ -1,4 +1,4 @@
-use Rattle.std.specs.Prelude.{ℕ, ◌+◌, ◌-◌, Bool, true, false, cond, ◌&&◌, ◌||◌, List, [], ◌∷◌, length, take, drop, ℤ, pos, neg_ℤ, Some, None, Option, ◌==◌, nat_eq, nat_le, nat_lt, slice_index}
+use Rattle.std.specs.Prelude.{ℕ, ◌-◌, Bool, true, false, cond, ◌&&◌, ◌||◌, List, [], ◌∷◌, length, take, drop, ℤ, pos, neg_ℤ, Some, None, Option, ◌==◌, nat_eq, nat_le, nat_lt, slice_index}
 use Rattle.source.specs.Bytes.{digit_value}
 use Rattle.scanner.specs.declared.words.Word.{Word}
 use Rattle.scanner.specs.declared.words.Word.TheVariants.{Integer, Real, Name, TooLarge}

@@ -1,4 +1,4 @@
-use Rattle.std.specs.Prelude.{◌≡◌, ℕ, ◌<◌, ◌≤◌, Bool, true, false, not, List, [], ◌∷◌, length, take, drop, Ok, Err}
+use Rattle.std.specs.Prelude.{◌≡◌, ℕ, ◌<◌, ◌≤◌, Bool, false, not, List, [], ◌∷◌, length, take, drop, Ok, Err}
 use Rattle.source.specs.declared.fault.Cause.TheVariants.{Limit}
 use Rattle.source.specs.Bytes.{white}
 use Rattle.source.specs.Numbers.{faulty}

@@ -1,4 +1,4 @@
-use Rattle.std.specs.Prelude.{ℕ, Bool, true, false, cond, List, [], ◌∷◌, ◌++◌, length, Ok, Err, Result, ◌==◌}
+use Rattle.std.specs.Prelude.{ℕ, true, false, cond, List, [], ◌∷◌, ◌++◌, length, Ok, Err, Result, ◌==◌}
 use Rattle.source.specs.declared.ending.Ending.{Ending}
 use Rattle.source.specs.declared.fault.Cause.TheVariants.{Limit}
 use Rattle.source.specs.Numbers.{faulty}

@@ -1,4 +1,4 @@
-use Rattle.std.specs.Prelude.{◌≡◌, ℕ, ◌≤◌, Bool, false, cond, List, [], ◌∷◌, ◌++◌, length, Ok, ◌==◌}
+use Rattle.std.specs.Prelude.{◌≡◌, ℕ, ◌≤◌, false, cond, List, [], ◌∷◌, ◌++◌, length, Ok, ◌==◌}
 use Rattle.std.specs.List.{flat_map}
 use Rattle.source.specs.declared.ending.Ending.{Ending}
 use Rattle.scanner.specs.declared.kinds.Kind.TheVariants.{String}

@@ -1,4 +1,4 @@
-use Rattle.std.specs.Prelude.{ℕ, ◌+◌, ◌*◌, ◌%◌, Bool, true, false, cond, Some, None, Option, ◌==◌, nat_lt}
+use Rattle.std.specs.Prelude.{ℕ, ◌+◌, ◌*◌, ◌%◌, cond, Some, None, Option, ◌==◌, nat_lt}
 use Rattle.source.specs.declared.hex.HexByte.{HexByte}
 use Rattle.source.specs.declared.hex.HexByte.TheVariants as byte
 use Rattle.source.specs.declared.hex.HexTurn.{HexTurn}

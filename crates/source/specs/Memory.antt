@@ -1,4 +1,4 @@
-use Rattle.std.specs.Prelude.{◌≡◌, ℕ, List, [], ◌∷◌, drop, refl}
+use Rattle.std.specs.Prelude.{ℕ, List, drop, refl}
 use Rattle.std.proofs.Common.{sym, ◌∙◌, ap}
 use Rattle.source.specs.Model.{Model, tail}
 use Rattle.source.specs.declared.ending.Ending.TheVariants.{Clean}

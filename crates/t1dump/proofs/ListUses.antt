@@ -1,4 +1,4 @@
-use Rattle.std.proofs.Common.{◌≡◌, ℕ, zero, suc, ◌-◌, ◌<◌, ◌≤◌, Bool, true, false, cond, ltb, List, [], ◌∷◌, ◌++◌, length, take, drop, Ok, Err, Result, sym, refl, ap, ◌∙◌, subst, ap₂, append_assoc, arith}
+use Rattle.std.proofs.Common.{◌≡◌, ℕ, zero, suc, ◌-◌, ◌<◌, ◌≤◌, Bool, true, false, cond, ltb, List, [], ◌∷◌, ◌++◌, length, take, drop, Result, sym, refl, ap, ◌∙◌, subst, ap₂, append_assoc, arith}
 use Rattle.std.proofs.lemmas.List.{append-nil, length-append, take_at}
 use Rattle.std.proofs.lemmas.Bool.{cond-true, cond-false, or_from, le-ltb, true≢false}
 use Rattle.source.specs.declared.ending.Ending.{Ending}
@@ -7,8 +7,8 @@ use Rattle.source.specs.Model.{Model}
 use Rattle.source.specs.Laws.{Lawful}
 use Rattle.source.specs.Gone.{gone_to}
 use Rattle.source.specs.Reads.{Read, Reads}
-use Rattle.source.proofs.Walk.{Reach, Walk, reach_start}
-use Rattle.source.proofs.Calls.{Steady, walk_left, walk_on, walk_gone}
+use Rattle.source.proofs.Walk.{Walk, reach_start}
+use Rattle.source.proofs.Calls.{Steady, walk_left, walk_on}
 use Rattle.scanner.specs.declared.failure.Failure.{Failure}
 use Rattle.scanner.specs.declared.kinds.Token.{Token}
 use Rattle.scanner.specs.AnswerLaw.{said}

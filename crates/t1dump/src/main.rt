@@ -1,4 +1,6 @@
 // Lists the tokens of a PostScript text: reads standard input, and prints a line for each token and then how it ended.
+#![tactic(auto)]
+
 mod answers;
 mod dump;
 mod texts;

@@ -1,5 +1,5 @@
-use Rattle.std.proofs.Common.{◌≡◌, ◌++◌, length, codes, decimal, sym, ap, ◌∙◌, ap₂, arith}
-use Rattle.listing.specs.Lines.{blank, newline, fault_text}
+use Rattle.std.proofs.Common.{length, decimal, ap, ap₂, arith}
+use Rattle.listing.specs.Lines.{fault_text}
 use Rattle.listing.proofs.PlacingUses.{placed_then, placed_as}
 use Rattle.listing.proofs.LineUses.{prints_whole, prints_none, length_fault}
 use Rattle.listing.proofs.lines.print_fault.Goals as goal

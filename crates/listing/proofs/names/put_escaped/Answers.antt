@@ -1,4 +1,4 @@
-use Rattle.std.proofs.Common.{sym, ◌∙◌}
+use Rattle.std.proofs.Common.{sym}
 use Rattle.std.proofs.lemmas.Bool.{cond-false}
 use Rattle.listing.specs.Shown.{plain}
 use Rattle.listing.proofs.PlacingUses.{placed_then, placed_as}

@@ -1,4 +1,4 @@
-use Rattle.std.proofs.Common.{◌≡◌, sym, ap, ◌∙◌, arith}
+use Rattle.std.proofs.Common.{sym, ap, ◌∙◌, arith}
 use Rattle.listing.specs.Placing.{fitting}
 use Rattle.listing.proofs.ShownUses.{length_hexadecimal, fits, not_fits}
 use Rattle.listing.proofs.strings.string_size.Goals as goal

@@ -1,4 +1,4 @@
-use Rattle.std.proofs.Common.{◌≡◌, ◌+◌, ◌*◌, min, sym, ◌∙◌, subst, ap₂}
+use Rattle.std.proofs.Common.{◌+◌, ◌*◌, min, sym, ◌∙◌, subst, ap₂}
 use Rattle.std.proofs.lemmas.Bool.{eqb-false}
 use Rattle.scanner.proofs.NumberUses.{Valued, valued_start, valued_more, valued_none, valued_all}
 use Rattle.scanner.proofs.digits.digits.Goals as goal

@@ -1,7 +1,7 @@
-use Rattle.std.proofs.Common.{◌≡◌, ℕ, ◌<◌, length, Ok, Err, sym, subst, arith}
+use Rattle.std.proofs.Common.{◌≡◌, ◌<◌, length, Err, sym, subst, arith}
 use Rattle.scanner.specs.Scan.{Scans}
 use Rattle.scanner.specs.HexStrings.{hex_of}
-use Rattle.scanner.proofs.HexUses.{hexed_start, hexed_fewer, hexed_wait, hexed_put, hexed_done, hexed_stray, hexed_put_full, hexed_last_full, hexed_last, hexed_end}
+use Rattle.scanner.proofs.HexUses.{hexed_wait, hexed_put, hexed_done, hexed_stray, hexed_put_full, hexed_last_full, hexed_last, hexed_end}
 use Rattle.scanner.proofs.hex.hex_string.Goals as goal
 
 pub returns-in-Err : goal.returns-in-Err

@@ -1,4 +1,4 @@
-use Rattle.std.proofs.Common.{◌≡◌, Ok, Err, refl, ap}
+use Rattle.std.proofs.Common.{Ok, refl, ap}
 use Rattle.source.proofs.Calls.{reads_then, reads_as}
 use Rattle.scanner.specs.declared.pieces.Piece.TheVariants as piece
 use Rattle.scanner.specs.declared.pieces.Escape.TheVariants as escape

@@ -1,4 +1,4 @@
-use Rattle.std.proofs.Common.{◌≡◌, refl}
+use Rattle.std.proofs.Common.{refl}
 use Rattle.source.proofs.Calls.{reads_then, reads_as}
 use Rattle.scanner.specs.declared.pieces.Opening.TheVariants as opening
 use Rattle.scanner.specs.Takes.{byte_of}

@@ -1,4 +1,4 @@
-use Rattle.std.proofs.Common.{◌≡◌, Some, None, refl, ap}
+use Rattle.std.proofs.Common.{Some, None, refl, ap}
 use Rattle.source.proofs.Calls.{reads_then, reads_as}
 use Rattle.scanner.specs.Pieces.{octal_of, number_last, number_by, number_of}
 use Rattle.scanner.proofs.PieceUses.{steady_octal}

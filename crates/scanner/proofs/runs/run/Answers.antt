@@ -1,14 +1,13 @@
-use Rattle.std.proofs.Common.{◌≡◌, ℕ, ◌+◌, ◌<◌, true, false, [], ◌∷◌, ◌++◌, length, take, set, Ok, Err, sym, refl, ap, ◌∙◌, arith}
+use Rattle.std.proofs.Common.{◌+◌, ◌<◌, [], length, take, set, Ok, Err, sym, refl, ap, ◌∙◌, arith}
 use Rattle.std.proofs.lemmas.List.{take_more_set}
 use Rattle.std.proofs.lemmas.Bool.{eqb-true, eqb-false}
-use Rattle.source.specs.Gone.{gone_to}
 use Rattle.source.proofs.Walk.{walk_start, walk_took, took_fewer, walk_stop_took, walk_stop_looked, walk_stop_end, look_take}
-use Rattle.scanner.specs.declared.class.Class.TheVariants.{White, Special, Regular}
+use Rattle.scanner.specs.declared.class.Class.TheVariants.{White, Special}
 use Rattle.source.specs.declared.fault.Cause.TheVariants.{Limit}
 use Rattle.source.specs.Numbers.{faulty}
 use Rattle.scanner.specs.declared.failure.Failure.TheVariants.{Fault}
 use Rattle.scanner.specs.Runs.{run_at, run_of}
-use Rattle.scanner.proofs.Area.{Written, written_none, written_more, written_count, scans_at}
+use Rattle.scanner.proofs.Area.{written_none, written_more, written_count, scans_at}
 use Rattle.scanner.proofs.RunUses.{run_class, run_full, run_more}
 use Rattle.scanner.proofs.runs.run.Goals as goal
 

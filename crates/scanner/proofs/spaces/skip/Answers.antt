@@ -1,4 +1,4 @@
-use Rattle.std.proofs.Common.{◌≡◌, true, false, sym, ap, ◌∙◌}
+use Rattle.std.proofs.Common.{true, false, sym, ap, ◌∙◌}
 use Rattle.source.specs.Gone.{gone_to}
 use Rattle.source.proofs.Walk.{walk_start, walk_took, took_fewer, walk_stop_looked, walk_stop_end, look_take}
 use Rattle.scanner.specs.Spaces.{skipped}

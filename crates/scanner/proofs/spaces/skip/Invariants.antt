@@ -1,4 +1,4 @@
-use Rattle.std.proofs.Common.{true, false, length}
+use Rattle.std.proofs.Common.{false, length}
 use Rattle.source.proofs.Walk.{Walk}
 use Rattle.scanner.specs.Spaces.{skipped}
 use Rattle.scanner.proofs.spaces.skip.Given as goal

@@ -1,8 +1,7 @@
-use Rattle.std.proofs.Common.{◌≡◌, ℕ, ◌<◌, length, Ok, Err, sym, subst, arith}
-use Rattle.source.specs.declared.fault.Cause.TheVariants.{Limit}
+use Rattle.std.proofs.Common.{◌≡◌, ◌<◌, length, Err, sym, subst, arith}
 use Rattle.scanner.specs.Scan.{Scans}
 use Rattle.scanner.specs.Strings.{string_of}
-use Rattle.scanner.proofs.StringUses.{Strung, strung_start, strung_fewer, strung_pass, strung_put, strung_done, strung_full, strung_err}
+use Rattle.scanner.proofs.StringUses.{strung_start, strung_fewer, strung_pass, strung_put, strung_done, strung_full, strung_err}
 use Rattle.scanner.proofs.strings.string.Goals as goal
 
 pub loop-piece-init : goal.loop-piece-init

@@ -1,4 +1,4 @@
-use Rattle.std.proofs.Common.{◌≡◌, Ok, Err, sym, refl, ap, ◌∙◌}
+use Rattle.std.proofs.Common.{Ok, sym, refl, ap, ◌∙◌}
 use Rattle.scanner.specs.declared.tokens.Start.TheVariants as start
 use Rattle.scanner.specs.Tokens.{name_of, string_token_of, less_of, greater_of, bare}
 use Rattle.scanner.proofs.Steadiness.{steady_string, steady_name, steady_less, steady_doubled}

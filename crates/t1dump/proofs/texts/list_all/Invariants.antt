@@ -1,4 +1,4 @@
-use Rattle.std.proofs.Common.{◌≡◌, ◌+◌, ◌*◌, ◌≤◌, length, vec_items}
+use Rattle.std.proofs.Common.{length, vec_items}
 use Rattle.t1dump.proofs.ListUses.{Listing}
 use Rattle.t1dump.proofs.texts.list_all.Given as goal
 

@@ -8,13 +8,13 @@ use Rattle.source.specs.Bytes.{white, unspaced}
 use Rattle.source.specs.Reads.{Read}
 use Rattle.ascii.specs.declared.ascii85.Byte85.TheVariants.{Digit, White}
 use Rattle.decoding.specs.Step.{Own}
-use Rattle.ascii.specs.Ascii85.{A85State, byte85Of, value85, Below85, a85_group, a85_last, a85_mark, a85_judged, stopped, a85_turn, a85_at}
+use Rattle.ascii.specs.Ascii85.{A85State, byte_85_of, value85, Below85, a85_group, a85_last, a85_mark, a85_judged, stopped, a85_turn, a85_at}
 use Rattle.ascii.specs.Ascii85Law.{figures}
 
-white_is : (b : ℕ) → white b ≡ true → byte85Of b ≡ White
+white_is : (b : ℕ) → white b ≡ true → byte_85_of b ≡ White
 white_is b h = grind (arith, nat_tests)
 
-pub figure_is : (d : ℕ) → d < 85 → byte85Of (33 + d) ≡ Digit d
+pub figure_is : (d : ℕ) → d < 85 → byte_85_of (33 + d) ≡ Digit d
 figure_is d h = grind (arith, nat_tests)
 
 -- behind some white bytes and the byte f: what f does, with t spaced behind it
@@ -22,7 +22,7 @@ pub record Passed (s : List ℕ) (f : ℕ) (t : List ℕ) : Type 0 where
   pub behind : List ℕ
   pub spaced : unspaced behind ≡ t
   pub on :
-      (ds r : List ℕ) (e : Ending) → a85_at ds (s ++ r) e ≡ a85_turn (byte85Of f) ds (behind ++ r) e (λ ds. a85_at ds (behind ++ r) e)
+      (ds r : List ℕ) (e : Ending) → a85_at ds (s ++ r) e ≡ a85_turn (byte_85_of f) ds (behind ++ r) e (λ ds. a85_at ds (behind ++ r) e)
 
 pub passed : (s : List ℕ) (f : ℕ) (t : List ℕ) → unspaced s ≡ f ∷ t → Passed s f t
 passed [] f t q = let z : ◌≡◌ {A = ℕ} 0 1 = cc in let no_way : ⊥ = omega arith in absurd no_way
@@ -38,7 +38,7 @@ passed (b ∷ s) f t q = by (white b) refl (λ k. passed s f t k) q
         }
     by false w again q =
         let same : b ≡ f = cc in
-        record { behind = s; spaced = cc; on = λ ds r e. ap (λ u. a85_turn (byte85Of u) ds (s ++ r) e (λ ds. a85_at ds (s ++ r) e)) same }
+        record { behind = s; spaced = cc; on = λ ds r e. ap (λ u. a85_turn (byte_85_of u) ds (s ++ r) e (λ ds. a85_at ds (s ++ r) e)) same }
 
 -- behind some digits that go on with a group
 pub record Gone (ds : List ℕ) (s : List ℕ) (new t : List ℕ) : Type 0 where

@@ -15,7 +15,7 @@ use Rattle.source.proofs.Calls.{reads_took, walk_answer, walk_gone}
 use Rattle.ascii.specs.declared.ascii85.Byte85.{Byte85}
 use Rattle.ascii.specs.declared.ascii85.Byte85.TheVariants.{Digit, White, Zero, Tilde, Stray}
 use Rattle.decoding.specs.Step.{Own}
-use Rattle.ascii.specs.Ascii85.{A85State, byte85Of, value_on, value85, Below85, holding, a85_group, a85_zeros, a85_last, a85_mark, a85_close, stopped, a85_turn, a85_at, Pending}
+use Rattle.ascii.specs.Ascii85.{A85State, byte_85_of, value_on, value85, Below85, holding, a85_group, a85_zeros, a85_last, a85_mark, a85_close, stopped, a85_turn, a85_at, Pending}
 use Rattle.ascii.specs.Ascii85Sound.{mark_steady}
 
 -- the last group, by what the code keeps of its digits
@@ -85,7 +85,7 @@ below_push [] d q h = (h, tt)
 below_push (x ∷ ds) d q h = (q.0, below_push ds d q.1 h)
 
 -- a digit is below 85
-pub digit_below : (b d : ℕ) → Digit d ≡ byte85Of b → d < 85
+pub digit_below : (b d : ℕ) → Digit d ≡ byte_85_of b → d < 85
 digit_below b d q = grind (arith, nat_tests)
 
 -- three digits and one more fit
@@ -111,14 +111,14 @@ module _
   abbrev turn : Byte85 → Read (Own A85State)
   turn u = a85_turn u k.digits (m.rest x') (m.ending h) (λ ds. a85_at ds (m.rest x') (m.ending h))
 
-  pub group_white : White ≡ byte85Of b → Gathering m h x' count value
+  pub group_white : White ≡ byte_85_of b → Gathering m h x' count value
   group_white q = record {
     digits = k.digits;
     pending = k.pending;
     walk = walk_took m l h x _ _ x' b (λ r. a85_at k.digits r (m.ending h)) k.walk p t (sym (ap turn q));
   }
 
-  pub group_digit : (d : ℕ) → Digit d ≡ byte85Of b → (count ≡ 4 → ⊥) → Gathering m h x' (count + 1) (value * 85 + d)
+  pub group_digit : (d : ℕ) → Digit d ≡ byte_85_of b → (count ≡ 4 → ⊥) → Gathering m h x' (count + 1) (value * 85 + d)
   group_digit d q n =
       let g = k.pending in
       let few : length k.digits < 4 = omega (arith, g.many, g.few, n) in
@@ -136,11 +136,11 @@ module _
       }
 
   -- a turn that makes something
-  group_stop : (u : Byte85) (own : Own A85State) → u ≡ byte85Of b → stopped own (m.rest x') ≡ turn u → Reads m (a85_at []) h own x'
+  group_stop : (u : Byte85) (own : Own A85State) → u ≡ byte_85_of b → stopped own (m.rest x') ≡ turn u → Reads m (a85_at []) h own x'
   group_stop u own q e =
       reads_took m l (a85_at []) h x x' _ k.walk t own (stopped own (m.rest x')) refl b p (e ∙ ap turn q) refl refl
 
-  pub group_whole : (d : ℕ) (own : Own A85State) → Digit d ≡ byte85Of b → count ≡ 4 → own ≡ a85_group 4 (value * 85 + d) None → Reads m (a85_at []) h own x'
+  pub group_whole : (d : ℕ) (own : Own A85State) → Digit d ≡ byte_85_of b → count ≡ 4 → own ≡ a85_group 4 (value * 85 + d) None → Reads m (a85_at []) h own x'
   group_whole d own q n e =
       let g = k.pending in
       let all : 4 ≤ length k.digits = omega (arith, g.many) in
@@ -148,14 +148,14 @@ module _
       (ap (λ o. stopped o (m.rest x')) (e ∙ ap (λ v. a85_group 4 v None) (ap (λ v. v * 85 + d) g.worth ∙ sym (value_push 0 k.digits d)))
       ∙ sym (ap (λ c. cond c (a85_at (k.digits ++ d ∷ []) (m.rest x') (m.ending h)) (stopped (a85_group 4 (value85 (k.digits ++ d ∷ [])) None) (m.rest x'))) (le-ltb (length k.digits) 4 all)))
 
-  pub group_zero : (own : Own A85State) → Zero ≡ byte85Of b → own ≡ a85_zeros k.digits → Reads m (a85_at []) h own x'
+  pub group_zero : (own : Own A85State) → Zero ≡ byte_85_of b → own ≡ a85_zeros k.digits → Reads m (a85_at []) h own x'
   group_zero own q e = group_stop Zero own q (ap (λ o. stopped o (m.rest x')) e)
 
-  pub group_stray : (own : Own A85State) → Stray ≡ byte85Of b → own ≡ holding [] (Some (Damaged damage.Stray 0)) → Reads m (a85_at []) h own x'
+  pub group_stray : (own : Own A85State) → Stray ≡ byte_85_of b → own ≡ holding [] (Some (Damaged damage.Stray 0)) → Reads m (a85_at []) h own x'
   group_stray own q e = group_stop Stray own q (ap (λ o. stopped o (m.rest x')) e)
 
   -- a call behind ~
-  pub group_close : (own : Own A85State) (x₂ : H) → Tilde ≡ byte85Of b → Reads m (a85_close k.digits) x' own x₂ → Reads m (a85_at []) h own x₂
+  pub group_close : (own : Own A85State) (x₂ : H) → Tilde ≡ byte_85_of b → Reads m (a85_close k.digits) x' own x₂ → Reads m (a85_at []) h own x₂
   group_close own x₂ q y =
       let w : Walk m h x' (λ r. a85_close k.digits r (m.ending h)) (a85_at [] (m.rest h) (m.ending h))
       = walk_took m l h x _ _ x' b (λ r. a85_close k.digits r (m.ending h)) k.walk p t (sym (ap turn q)) in

@@ -19,8 +19,8 @@ abbrev pub a85_holds : Ascii85 → Holds A85State
 a85_holds f = record { ready = listed f.ready; compared = []; kind = tt }
 
 -- what a byte is in base-85 data: a digit from ! to u, a white byte, z, ~, or a stray byte
-abbrev pub byte85Of : ℕ → Byte85
-byte85Of b =
+abbrev pub byte_85_of : ℕ → Byte85
+byte_85_of b =
     cond (nat_le b 32) (cond (white b) White Stray)
     (cond (nat_le b 117) (Digit (b - 33))
     (cond (b == 122) Zero
@@ -97,7 +97,7 @@ a85_turn Stray digits left e on = stopped (holding [] (Some (Damaged damage.Stra
 -- a step where some digits are pending
 abbrev pub a85_at : List ℕ → List ℕ → Ending → Read (Own A85State)
 a85_at digits [] e = stops tt (above e)
-a85_at digits (b ∷ bs) e = a85_turn (byte85Of b) digits bs e (λ ds. a85_at ds bs e)
+a85_at digits (b ∷ bs) e = a85_turn (byte_85_of b) digits bs e (λ ds. a85_at ds bs e)
 
 abbrev pub a85_step : StepOf A85State
 a85_step k c bs e = a85_at [] bs e

@@ -15,7 +15,7 @@ use Rattle.decoding.specs.Ends.{above}
 use Rattle.ascii.specs.Ready4.{bytes4, listed}
 use Rattle.decoding.specs.Step.{Own, Sound, LawfulStep}
 use Rattle.decoding.specs.SoundSteps.{none_some, false_true, sound_byte, sound_last, sound_stop, sound_behind, sound_on}
-use Rattle.ascii.specs.Ascii85.{A85State, a85_holds, byte85Of, value85, holding, a85_group, a85_last, a85_mark, a85_judged, a85_zeros, stopped, a85_turn, a85_at, a85_step}
+use Rattle.ascii.specs.Ascii85.{A85State, a85_holds, byte_85_of, value85, holding, a85_group, a85_last, a85_mark, a85_judged, a85_zeros, stopped, a85_turn, a85_at, a85_step}
 
 -- what is taken behind ~
 mark_by : (c : Bool) (b : ℕ) (bs : List ℕ) (s : Read (Option Ending)) (o : Option Ending) → Steady bs s.left s.peeked → (s.peeked ≡ true → s.left ≡ [])
@@ -96,7 +96,7 @@ turn_sound Stray digits b bs e on q = sound_last tt (suc (length bs)) b bs [] (D
 
 at_sound : (digits bs : List ℕ) (e : Ending) → Sound (length bs) bs (a85_at digits bs e)
 at_sound digits [] e = sound_stop tt 0 (above e)
-at_sound digits (b ∷ bs) e = turn_sound (byte85Of b) digits b bs e (λ ds. a85_at ds bs e) (λ ds. at_sound ds bs e)
+at_sound digits (b ∷ bs) e = turn_sound (byte_85_of b) digits b bs e (λ ds. a85_at ds bs e) (λ ds. at_sound ds bs e)
 
 pub a85_lawful : LawfulStep A85State a85_step
 a85_lawful k c bs e = sound_behind (behind_self bs) (omega arith) (at_sound [] bs e)

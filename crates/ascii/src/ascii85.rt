@@ -1,7 +1,7 @@
 ghost use Rattle.std.specs.Prelude.{◌≡◌, ℕ, ◌+◌, ◌-◌, ◌*◌, List, [], length, None};
 ghost use Rattle.source.specs.Reads.{Reads};
 ghost use Rattle.ascii.specs.Ready4.{own_made4};
-ghost use Rattle.ascii.specs.Ascii85.{A85State, a85_holds, byte85Of, a85_group, a85_zeros, a85_last, a85_mark, a85_close, a85_at, a85_step, Pending};
+ghost use Rattle.ascii.specs.Ascii85.{A85State, a85_holds, byte_85_of, a85_group, a85_zeros, a85_last, a85_mark, a85_close, a85_at, a85_step, Pending};
 ghost use Rattle.ascii.specs.Ascii85Sound.{a85_lawful, a85_within};
 ghost use Rattle.ascii.specs.Ascii85Law.{Ascii85Law};
 ghost use Rattle.ascii.specs.Ascii85Examples.{Ascii85Examples};
@@ -46,7 +46,7 @@ impl Ascii85 {
 
 // What a byte is: a digit from `!` to `u`, `z`, `~`, a white byte, or a stray one.
 fn byte_of(b: u8) -> Byte85
-    ensures { result ≡ byte85Of b }
+    ensures { result ≡ byte_85_of b }
 {
     if b >= b'!' && b <= b'u' {
         return Byte85::Digit(b - b'!');
@@ -182,9 +182,9 @@ impl Kind for Ascii85 {
 
     ghost holds = { a85_holds };
 
-    ghost stepOf = { a85_step };
+    ghost step_of = { a85_step };
 
-    ghost lawfulStep = { a85_lawful };
+    ghost lawful_step = { a85_lawful };
 
     ghost within = { a85_within };
 

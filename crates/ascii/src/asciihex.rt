@@ -71,9 +71,9 @@ impl Kind for AsciiHex {
 
     ghost holds = { hex_holds };
 
-    ghost stepOf = { hex_step };
+    ghost step_of = { hex_step };
 
-    ghost lawfulStep = { hex_lawful };
+    ghost lawful_step = { hex_lawful };
 
     ghost within = { hex_within };
 

@@ -19,17 +19,17 @@ pub trait Kind {
     ghost holds: { Self → Holds State };
 
     // what a step does
-    ghost stepOf: { StepOf State };
+    ghost step_of: { StepOf State };
 
     // that a step leaves a byte ready or an ending, and goes on behind what it took
-    ghost lawfulStep: { LawfulStep State stepOf };
+    ghost lawful_step: { LawfulStep State step_of };
 
     // that it never holds more than the most
     ghost within: { (k : Self) → length (holds k).ready + length (holds k).compared ≤ most };
 
     // Makes a step: what was ready is dropped, bytes become ready, or the filter ends, or both.
     fn step<S: Source>(&mut self, below: &mut S) -> Option<Ending>
-        ensures { Reads S.Source.model (step_from stepOf (holds self.old)) (S.Source.held below.old) (own_of (holds self.new) result) (S.Source.held below.new) };
+        ensures { Reads S.Source.model (step_from step_of (holds self.old)) (S.Source.held below.old) (own_of (holds self.new) result) (S.Source.held below.new) };
 
     // The byte that is ready first.
     fn first(&self) -> Option<u8>

@@ -20,8 +20,8 @@ use Rattle.eexec.specs.Eexec.{EexecState, known, with_answer, plain_by, drop_by,
 use Rattle.eexec.proofs.CipherBytesUses.{blank_turn, value_turn, stray_turn}
 
 -- what the value of a digit says
-digit_value : (b d : ℕ) → d ≡ hex_value b → d < 16 → d ≡ digit_value b
-digit_value b d q h = by (ltb (digit_value b) 16) q
+digit_has_value : (b d : ℕ) → d ≡ hex_value b → d < 16 → d ≡ digit_value b
+digit_has_value b d q h = by (ltb (digit_value b) 16) q
   where
     by : (t : Bool) → d ≡ cond t (digit_value b) 16 → d ≡ digit_value b
     by true q = q
@@ -86,12 +86,12 @@ module _
     module _ (d : ℕ) (q : d ≡ hex_value b) (small : d < 16) where
       -- a first digit
       pub hex_first : pending ≡ None → Walk m h x' (λ r. hex_on n (Some d) key r (m.ending h)) (behind_of all Hex first_key (m.rest h) (m.ending h))
-      hex_first f = wait (Some d) (value_turn pending b d (sym (digit_value b d q small)) small ∙ ap (λ v. digit_turn v d) f)
+      hex_first f = wait (Some d) (value_turn pending b d (sym (digit_has_value b d q small)) small ∙ ap (λ v. digit_turn v d) f)
 
       -- a second one
       module _ (high c key' : ℕ) (f : pending ≡ Some high) (is : c ≡ paired high d) (next : key' ≡ key_after key c) where
         put : turn_of pending b ≡ Put c
-        put = value_turn pending b d (sym (digit_value b d q small)) small ∙ (ap (λ v. digit_turn v d) f ∙ ap Put (sym is))
+        put = value_turn pending b d (sym (digit_has_value b d q small)) small ∙ (ap (λ v. digit_turn v d) f ∙ ap Put (sym is))
 
         -- whose plain byte is dropped
         pub hex_drop : 0 < n → Walk m h x' (λ r. hex_on (n - 1) None key' r (m.ending h)) (behind_of all Hex first_key (m.rest h) (m.ending h))

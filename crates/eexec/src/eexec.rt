@@ -205,9 +205,9 @@ impl Kind for Eexec {
 
     ghost holds = { eexec_holds };
 
-    ghost stepOf = { eexec_step };
+    ghost step_of = { eexec_step };
 
-    ghost lawfulStep = { eexec_lawful };
+    ghost lawful_step = { eexec_lawful };
 
     ghost within = { eexec_within };
 

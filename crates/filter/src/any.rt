@@ -63,9 +63,9 @@ impl Kind for AnyKind {
 
     ghost holds = { any_holds };
 
-    ghost stepOf = { any_step };
+    ghost step_of = { any_step };
 
-    ghost lawfulStep = { any_lawful };
+    ghost lawful_step = { any_lawful };
 
     ghost within = { any_within };
 

@@ -21,7 +21,7 @@ impl<K: Kind, S: Source> Layer<K, S> {
     // A filter that has not ended, over what is given; nothing is taken from that.
     pub fn new(kind: K, below: S) -> Layer<K, S>
         ensures held { layer_held K.Kind.holds S.Source.held result ≡ (own_of (K.Kind.holds kind) None, S.Source.held below) }
-        ensures law { LayerLaw K.Kind.stepOf S.Source.model }
+        ensures law { LayerLaw K.Kind.step_of S.Source.model }
     {
         Layer {
             below,
@@ -32,7 +32,7 @@ impl<K: Kind, S: Source> Layer<K, S> {
 
     // Makes a step if nothing is ready and the filter has not ended.
     fn fill(&mut self)
-        ensures { layer_held K.Kind.holds S.Source.held self.new ≡ layer_looked K.Kind.stepOf S.Source.model (layer_held K.Kind.holds S.Source.held self.old) }
+        ensures { layer_held K.Kind.holds S.Source.held self.new ≡ layer_looked K.Kind.step_of S.Source.model (layer_held K.Kind.holds S.Source.held self.old) }
     {
         if self.ended.is_none() && self.kind.first().is_none() {
             self.ended = self.kind.step(&mut self.below);
@@ -58,9 +58,9 @@ impl<K: Kind, S: Source> Source for Layer<K, S> {
 
     ghost held = { layer_held K.Kind.holds S.Source.held };
 
-    ghost model = { layer_model K.Kind.stepOf S.Source.model };
+    ghost model = { layer_model K.Kind.step_of S.Source.model };
 
-    ghost lawful = { layer_lawful K.Kind.stepOf K.Kind.lawfulStep S.Source.model S.Source.lawful };
+    ghost lawful = { layer_lawful K.Kind.step_of K.Kind.lawful_step S.Source.model S.Source.lawful };
 
     fn look(&mut self) -> Next {
         self.fill();
@@ -90,7 +90,7 @@ impl<K: Kind + Drop, S: Source> Filter for Layer<K, S> {
 
     ghost ended = { λ l. l.ended };
 
-    ghost decodes = { λ l. decode K.Kind.stepOf (K.Kind.holds l.kind).kind (K.Kind.holds l.kind).compared };
+    ghost decodes = { λ l. decode K.Kind.step_of (K.Kind.holds l.kind).kind (K.Kind.holds l.kind).compared };
 
     fn held_count(&self) -> usize {
         self.kind.count()

@@ -7,7 +7,7 @@ use Rattle.subfile.specs.declared.subfile.Match.TheVariants.{Starts, Equals, Fai
 use Rattle.subfile.specs.declared.subfile.SubFile.{SubFile}
 use Rattle.decoding.specs.Decoding.{Decoding, decode}
 use Rattle.decoding.specs.Ends.{passed, above}
-use Rattle.subfile.specs.Holding.{readyOf, comparedOf}
+use Rattle.subfile.specs.Holding.{ready_of, compared_of}
 use Rattle.subfile.specs.Marks.{mark_of}
 use Rattle.decoding.specs.Step.{Holds, Own, StepOf, own_of, makes, stops}
 
@@ -17,7 +17,7 @@ pub record SubState : Type 0 where
   pub mark : List ℕ
 
 abbrev pub sub_holds : SubFile → Holds SubState
-sub_holds f = record { ready = readyOf f.held; compared = comparedOf f.held; kind = record { count = f.count; mark = mark_of f.mark } }
+sub_holds f = record { ready = ready_of f.held; compared = compared_of f.held; kind = record { count = f.count; mark = mark_of f.mark } }
 
 -- how the bytes held stand to the mark: they are a proper start of it, or the mark, or neither
 abbrev pub judged : List ℕ → List ℕ → Match

@@ -9,7 +9,7 @@ use Rattle.subfile.specs.declared.subfile.Match.TheVariants.{Starts, Equals, Fai
 use Rattle.subfile.specs.declared.subfile.SubFile.{SubFile}
 use Rattle.subfile.specs.declared.window.Window.{Window}
 use Rattle.decoding.specs.Ends.{passed, above}
-use Rattle.subfile.specs.Holding.{readyOf, comparedOf}
+use Rattle.subfile.specs.Holding.{ready_of, compared_of}
 use Rattle.decoding.specs.Step.{Own, Sound, LawfulStep, makes}
 use Rattle.decoding.specs.SoundSteps.{none_some, false_true, sound_byte, sound_stop, sound_on}
 use Rattle.subfile.specs.SubFile.{SubState, sub_holds, judged, counted, last_ends, byte_at, first_at, cut_at, mark_turn, mark_at, sub_by, sub_step}
@@ -91,8 +91,8 @@ sub_lawful k c bs e = by k.mark refl
     by (m ∷ mark) q = mark_sound k m mark q c bs e
 
 -- sixteen bytes at the most
-window_within : (w : Window) → length (readyOf w) + length (comparedOf w) ≤ 16
-unfolding readyOf comparedOf
+window_within : (w : Window) → length (ready_of w) + length (compared_of w) ≤ 16
+unfolding ready_of compared_of
 window_within w =
     omega (
       arith,

@@ -1,14 +1,14 @@
 ghost use Rattle.std.specs.Prelude.{◌≡◌, ◌+◌, ◌<◌, [], ◌∷◌, ◌++◌, length, take, drop};
 ghost use Rattle.source.specs.Model.{tail};
 ghost use Rattle.decoding.specs.Step.{head_of};
-ghost use Rattle.subfile.specs.Holding.{readyOf, comparedOf, filledOf};
+ghost use Rattle.subfile.specs.Holding.{ready_of, compared_of, filled_of};
 
 use crate::window::Window;
 
 impl Window {
     pub(crate) fn empty() -> Window
-        ensures ready { readyOf result ≡ [] }
-        ensures compared { comparedOf result ≡ [] }
+        ensures ready { ready_of result ≡ [] }
+        ensures compared { compared_of result ≡ [] }
     {
         Window {
             bytes: [0; 16],
@@ -20,8 +20,8 @@ impl Window {
 
     // One byte that is ready.
     pub(crate) fn one(b: u8) -> Window
-        ensures ready { readyOf result ≡ b ∷ [] }
-        ensures compared { comparedOf result ≡ [] }
+        ensures ready { ready_of result ≡ b ∷ [] }
+        ensures compared { compared_of result ≡ [] }
     {
         Window {
             bytes: [b; 16],
@@ -33,7 +33,7 @@ impl Window {
 
     // The byte that is ready first.
     pub(crate) fn first(&self) -> Option<u8>
-        ensures { result ≡ head_of (readyOf self.now) }
+        ensures { result ≡ head_of (ready_of self.now) }
     {
         if self.from < self.ready {
             Some(self.bytes[self.from])
@@ -44,8 +44,8 @@ impl Window {
 
     // Hands the first ready byte up; where none is ready nothing changes.
     pub(crate) fn pop(&mut self)
-        ensures ready { readyOf self.new ≡ tail (readyOf self.old) }
-        ensures compared { comparedOf self.new ≡ comparedOf self.old }
+        ensures ready { ready_of self.new ≡ tail (ready_of self.old) }
+        ensures compared { compared_of self.new ≡ compared_of self.old }
     {
         if self.from < self.ready {
             self.from += 1;
@@ -53,22 +53,22 @@ impl Window {
     }
 
     pub(crate) fn count(&self) -> usize
-        ensures { result ≡ length (readyOf self.now) + length (comparedOf self.now) }
+        ensures { result ≡ length (ready_of self.now) + length (compared_of self.now) }
     {
         self.all - self.from
     }
 
     pub(crate) fn compared(&self) -> &[u8]
-        ensures { result.now ≡ comparedOf self.now }
+        ensures { result.now ≡ compared_of self.now }
     {
         &self.bytes[self.ready..self.all]
     }
 
     // Drops what is ready and moves what is compared to the front.
     pub(crate) fn settle(&mut self)
-        ensures ready { readyOf self.new ≡ [] }
-        ensures compared { comparedOf self.new ≡ comparedOf self.old }
-        ensures filled { filledOf self.new ≡ length (comparedOf self.new) }
+        ensures ready { ready_of self.new ≡ [] }
+        ensures compared { compared_of self.new ≡ compared_of self.old }
+        ensures filled { filled_of self.new ≡ length (compared_of self.new) }
     {
         let count = self.all - self.ready;
         self.bytes.copy_within(self.ready..self.all, 0);
@@ -79,10 +79,10 @@ impl Window {
 
     // Holds a byte that is compared.
     pub(crate) fn hold(&mut self, b: u8)
-        requires { filledOf self.old < 16 }
-        ensures ready { readyOf self.new ≡ readyOf self.old }
-        ensures compared { comparedOf self.new ≡ comparedOf self.old ++ b ∷ [] }
-        ensures filled { filledOf self.new ≡ filledOf self.old + 1 }
+        requires { filled_of self.old < 16 }
+        ensures ready { ready_of self.new ≡ ready_of self.old }
+        ensures compared { compared_of self.new ≡ compared_of self.old ++ b ∷ [] }
+        ensures filled { filled_of self.new ≡ filled_of self.old + 1 }
     {
         self.bytes[self.all] = b;
         self.all += 1;
@@ -90,8 +90,8 @@ impl Window {
 
     // Makes all that is compared ready, in place of what was.
     pub(crate) fn release(&mut self)
-        ensures ready { readyOf self.new ≡ comparedOf self.old }
-        ensures compared { comparedOf self.new ≡ [] }
+        ensures ready { ready_of self.new ≡ compared_of self.old }
+        ensures compared { compared_of self.new ≡ [] }
     {
         self.from = self.ready;
         self.ready = self.all;
@@ -99,8 +99,8 @@ impl Window {
 
     // Makes the byte ready that is compared first, in place of what was.
     pub(crate) fn release_first(&mut self)
-        ensures ready { readyOf self.new ≡ take 1 (comparedOf self.old) }
-        ensures compared { comparedOf self.new ≡ drop 1 (comparedOf self.old) }
+        ensures ready { ready_of self.new ≡ take 1 (compared_of self.old) }
+        ensures compared { compared_of self.new ≡ drop 1 (compared_of self.old) }
     {
         self.from = self.ready;
         if self.ready < self.all {

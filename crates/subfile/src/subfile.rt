@@ -139,9 +139,9 @@ impl Kind for SubFile {
 
     ghost holds = { sub_holds };
 
-    ghost stepOf = { sub_step };
+    ghost step_of = { sub_step };
 
-    ghost lawfulStep = { sub_lawful };
+    ghost lawful_step = { sub_lawful };
 
     ghost within = { sub_within };
 

@@ -11,11 +11,11 @@ pub returns-then-count-eq4 : goal.returns-then-count-eq4
 returns-then-count-eq4 g c =
     group_whole g.S.Source.model g.S.Source.lawful _ _ _ c.loop-ending.count c.loop-ending.value c.loop-ending.invariant c.take.ensures.after c.in-Byte.b c.in-Byte.ensures.answer c.in-Digit.d (own_made4 tt c.whole.result) c.in-Digit.ensures c.if-count-eq4.true c.whole.ensures
 
-pub overflow-mul-value : goal.overflow-mul-value
-overflow-mul-value g c = let v = value_fits g.S.Source.model _ _ c.loop-ending.count c.loop-ending.value c.loop-ending.invariant c.if-count-eq4.false in omega arith
+pub overflow_mul-value : goal.overflow_mul-value
+overflow_mul-value g c = let v = value_fits g.S.Source.model _ _ c.loop-ending.count c.loop-ending.value c.loop-ending.invariant c.if-count-eq4.false in omega arith
 
-pub overflow-add-value : goal.overflow-add-value
-overflow-add-value g c = let v = value_fits g.S.Source.model _ _ c.loop-ending.count c.loop-ending.value c.loop-ending.invariant c.if-count-eq4.false in omega (arith, digit_below c.in-Byte.b c.in-Digit.d c.in-Digit.ensures)
+pub overflow_add-value : goal.overflow_add-value
+overflow_add-value g c = let v = value_fits g.S.Source.model _ _ c.loop-ending.count c.loop-ending.value c.loop-ending.invariant c.if-count-eq4.false in omega (arith, digit_below c.in-Byte.b c.in-Digit.d c.in-Digit.ensures)
 
 pub loop-ending-preserved : goal.loop-ending-preserved
 loop-ending-preserved g c =

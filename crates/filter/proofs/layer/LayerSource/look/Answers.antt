@@ -7,7 +7,7 @@ pub returns : goal.returns
 returns g c = record {
   answer =
       c.front.ensures
-      ∙ answered g.K.Kind.stepOf g.K.Kind.lawfulStep g.S.Source.model g.S.Source.lawful
+      ∙ answered g.K.Kind.step_of g.K.Kind.lawful_step g.S.Source.model g.S.Source.lawful
       (layer_held g.K.Kind.holds g.S.Source.held c.args.self.now) (layer_held g.K.Kind.holds g.S.Source.held c.fill.new.self) c.fill.ensures;
   after = c.fill.ensures;
 }

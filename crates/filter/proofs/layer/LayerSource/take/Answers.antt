@@ -10,9 +10,9 @@ returns g c =
     record {
       answer =
           c.front-next.ensures
-          ∙ answered g.K.Kind.stepOf g.K.Kind.lawfulStep g.S.Source.model g.S.Source.lawful
+          ∙ answered g.K.Kind.step_of g.K.Kind.lawful_step g.S.Source.model g.S.Source.lawful
           (layer_held g.K.Kind.holds g.S.Source.held c.args.self.now) y c.fill.ensures;
       after =
           ap (λ (h : Holds g.K.Kind.State). let z : Own g.K.Kind.State × g.S.Source.Held = (own_of h c.fill.new.self.ended, y.1) in z) c.pop.ensures
-          ∙ ap (handed g.K.Kind.stepOf g.S.Source.model) c.fill.ensures;
+          ∙ ap (handed g.K.Kind.step_of g.S.Source.model) c.fill.ensures;
     }

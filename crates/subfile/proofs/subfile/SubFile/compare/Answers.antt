@@ -1,5 +1,5 @@
 use Rattle.std.proofs.Common.{◌<◌, length, ◌∙◌, ap₂, arith}
-use Rattle.subfile.specs.Holding.{readyOf, comparedOf}
+use Rattle.subfile.specs.Holding.{ready_of, compared_of}
 use Rattle.subfile.specs.Marks.{mark_of}
 use Rattle.subfile.specs.SubFile.{sub_holds, judged}
 use Rattle.subfile.proofs.SubFileUses.{mark_short, starts_shorter, released, compare_on, compare_equals, compare_fails}
@@ -18,13 +18,13 @@ returns-in-Fails g c =
 
 pub hold-requires : goal.hold-requires
 hold-requires g c =
-    let short : length (comparedOf c.loop-self.self.held) < length (mark_of c.loop-self.self.mark)
-    = starts_shorter (mark_of c.loop-self.self.mark) (comparedOf c.loop-self.self.held) (c.in-Starts.ensures ∙ ap₂ judged c.as_slice.ensures c.compared.ensures) in
+    let short : length (compared_of c.loop-self.self.held) < length (mark_of c.loop-self.self.mark)
+    = starts_shorter (mark_of c.loop-self.self.mark) (compared_of c.loop-self.self.held) (c.in-Starts.ensures ∙ ap₂ judged c.as_slice.ensures c.compared.ensures) in
     omega (arith, mark_short c.loop-self.self.mark, c.loop-self.invariant.places)
 
 pub loop-self-preserved : goal.loop-self-preserved
 loop-self-preserved g c =
     compare_on g.S.Source.model g.S.Source.lawful _ _ _ (sub_holds c.loop-self.self) _ c.loop-self.invariant _ c.in-Byte.b
-    (readyOf c.hold.new.self) (comparedOf c.hold.new.self) _
+    (ready_of c.hold.new.self) (compared_of c.hold.new.self) _
     (c.in-Starts.ensures ∙ ap₂ judged c.as_slice.ensures c.compared.ensures) c.in-Byte.ensures.answer c.take.ensures.after
     c.hold.ensures.compared c.hold.ensures.filled

@@ -1,10 +1,10 @@
 use Rattle.std.proofs.Common.{arith}
-use Rattle.subfile.specs.Holding.{readyOf, comparedOf}
+use Rattle.subfile.specs.Holding.{ready_of, compared_of}
 use Rattle.subfile.proofs.PartsUses.{part_length}
 use Rattle.subfile.proofs.window.Window.count.Goals as goal
 
 pub returns : goal.returns
-unfolding readyOf comparedOf
+unfolding ready_of compared_of
 returns c =
     omega (
       arith,

@@ -1,4 +1,4 @@
-use Rattle.std.proofs.Common.{◌≡◌, ℕ, List, [], ◌∷◌, None, Option, sym, refl, ap, ◌∙◌}
+use Rattle.std.proofs.Common.{◌≡◌, ℕ, List, None, Option, sym, refl, ap, ◌∙◌}
 use Rattle.source.specs.declared.ending.Ending.{Ending}
 use Rattle.source.specs.declared.hex.HexTurn.{HexTurn}
 use Rattle.source.specs.declared.hex.HexTurn.TheVariants.{Wait}

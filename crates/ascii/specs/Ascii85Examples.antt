@@ -1,4 +1,4 @@
-use Rattle.std.specs.Prelude.{◌≡◌, ℕ, Bool, true, false, List, [], ◌∷◌, codes}
+use Rattle.std.specs.Prelude.{◌≡◌, ℕ, true, false, List, [], ◌∷◌, codes}
 use Rattle.source.specs.declared.ending.Damage.TheVariants as damage
 use Rattle.source.specs.declared.ending.Ending.{Ending}
 use Rattle.source.specs.declared.ending.Ending.TheVariants.{Clean, Damaged}

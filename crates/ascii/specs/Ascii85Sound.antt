@@ -12,7 +12,7 @@ use Rattle.ascii.specs.declared.ascii85.Byte85.{Byte85}
 use Rattle.ascii.specs.declared.ascii85.Byte85.TheVariants.{Digit, White, Zero, Tilde, Stray}
 use Rattle.ascii.specs.declared.ascii85.Ascii85.{Ascii85}
 use Rattle.decoding.specs.Ends.{above}
-use Rattle.ascii.specs.Ready4.{bytes4, listed}
+use Rattle.ascii.specs.Ready4.{bytes4}
 use Rattle.decoding.specs.Step.{Own, Sound, LawfulStep}
 use Rattle.decoding.specs.SoundSteps.{none_some, false_true, sound_byte, sound_last, sound_stop, sound_behind, sound_on}
 use Rattle.ascii.specs.Ascii85.{A85State, a85_holds, byte_85_of, value85, holding, a85_group, a85_last, a85_mark, a85_judged, a85_zeros, stopped, a85_turn, a85_at, a85_step}

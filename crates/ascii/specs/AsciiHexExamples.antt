@@ -1,6 +1,5 @@
-use Rattle.std.specs.Prelude.{◌≡◌, ℕ, Bool, true, false, List, [], ◌∷◌, ◌++◌, Some, None, codes}
+use Rattle.std.specs.Prelude.{◌≡◌, ℕ, true, false, List, [], ◌∷◌, Some, None, codes}
 use Rattle.source.specs.declared.ending.Damage.TheVariants.{Stray, CutShort, Overflow}
-use Rattle.source.specs.declared.ending.Ending.{Ending}
 use Rattle.source.specs.declared.ending.Ending.TheVariants.{Clean, Damaged}
 use Rattle.decoding.specs.Decoding.{Decoding, gives, decode}
 use Rattle.decoding.specs.Step.{makes}

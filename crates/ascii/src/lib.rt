@@ -1,3 +1,5 @@
+#![tactic(auto)]
+
 mod ascii85;
 mod asciihex;
 mod made;

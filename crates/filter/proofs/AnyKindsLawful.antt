@@ -1,4 +1,4 @@
-use Rattle.std.proofs.Common.{◌≡◌, ℕ, zero, suc, ◌+◌, List, length, Some, None, Option, sym, refl, ap, ◌∙◌}
+use Rattle.std.proofs.Common.{◌≡◌, ℕ, zero, suc, ◌+◌, List, length, Some, None, Option, refl, ap, ◌∙◌}
 use Rattle.source.specs.declared.ending.Ending.{Ending}
 use Rattle.source.specs.Reads.{Read}
 use Rattle.decoding.specs.Decoding.{Decoding, then, decoding, decode}
@@ -7,7 +7,7 @@ use Rattle.ascii.specs.AsciiHex.{hex_step}
 use Rattle.ascii.specs.Ascii85.{a85_step}
 use Rattle.subfile.specs.SubFile.{sub_step}
 use Rattle.eexec.specs.Eexec.{eexec_step}
-use Rattle.filter.specs.AnyKinds.{AnyState, in_hex, in_groups, in_part, in_cipher, step_as, any_step}
+use Rattle.filter.specs.AnyKinds.{in_hex, in_groups, in_part, in_cipher, step_as, any_step}
 use Rattle.filter.specs.AnyKindsLaw.{AnyKindsLaw}
 
 -- a kind whose steps are those of another under the name f

@@ -1,6 +1,5 @@
-use Rattle.std.proofs.Common.{◌≡◌, ℕ, zero, suc, Bool, true, false, ◌||◌, List, [], ◌∷◌, ◌++◌, length, drop, Some, None, Option, sym, refl, ap, ◌∙◌, subst, ap₂, append_assoc, arith}
+use Rattle.std.proofs.Common.{◌≡◌, ℕ, zero, suc, Bool, true, false, ◌||◌, List, [], ◌∷◌, ◌++◌, drop, Some, None, Option, sym, refl, ap, ◌∙◌, subst, ap₂, append_assoc}
 use Rattle.source.specs.declared.ending.Ending.{Ending}
-use Rattle.source.specs.declared.interface.Next.TheVariants.{Byte, End}
 use Rattle.source.specs.Model.{Model, first, tail}
 use Rattle.source.specs.Laws.{Lawful}
 use Rattle.source.specs.Gone.{gone_to, Behind}
@@ -10,8 +9,8 @@ use Rattle.decoding.specs.Step.{StepOf, LawfulStep, Own, fresh}
 use Rattle.decoding.specs.Decoding.{Decoding, then, decode}
 use Rattle.filter.specs.Layers.{step_at, stepped, ahead, layer_rest, layer_ending, looked_by, layer_looked, handed, layer_model}
 use Rattle.filter.specs.LayerSound.{ahead_step, layer_lawful}
-use Rattle.decoding.specs.SoundSteps.{none_some, false_true}
-use Rattle.filter.specs.LayerLaw.{Ask, look, take, byte_in, counted, after_one, after, got, made, steps, less, Asked, LayerLaw}
+use Rattle.decoding.specs.SoundSteps.{false_true}
+use Rattle.filter.specs.LayerLaw.{Ask, look, take, byte_in, counted, after, got, made, steps, less, LayerLaw}
 
 or_assoc : (a b c : Bool) → a || (b || c) ≡ (a || b) || c
 or_assoc true b c = refl

@@ -1,6 +1,6 @@
 use Rattle.std.proofs.Common.{◌≡◌, ℕ, List, [], ◌∷◌, ◌++◌, Some, None, Option, sym, refl, ap, ◌∙◌, subst, ap₂, arith}
 use Rattle.source.specs.declared.ending.Ending.{Ending}
-use Rattle.source.specs.Model.{Model, first, tail}
+use Rattle.source.specs.Model.{Model, first}
 use Rattle.source.specs.Laws.{Lawful}
 use Rattle.decoding.specs.Step.{StepOf, LawfulStep, Own, Filled}
 use Rattle.decoding.specs.Decoding.{Decoding}

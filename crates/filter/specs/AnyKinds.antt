@@ -1,5 +1,4 @@
-use Rattle.std.specs.Prelude.{ℕ, List, []}
-use Rattle.source.specs.declared.ending.Ending.{Ending}
+use Rattle.std.specs.Prelude.{[]}
 use Rattle.source.specs.Reads.{Read}
 use Rattle.filter.specs.declared.any.AnyKind.{AnyKind}
 use Rattle.filter.specs.declared.any.AnyKind.TheVariants.{AsciiHex, Ascii85, SubFile, Eexec}

@@ -1,6 +1,5 @@
 use Rattle.std.specs.Prelude.{ℕ, ◌+◌, ◌≤◌, List, length}
 use Rattle.std.proofs.Common.{arith}
-use Rattle.source.specs.declared.ending.Ending.{Ending}
 use Rattle.source.specs.Reads.{Read}
 use Rattle.filter.specs.declared.any.AnyKind.{AnyKind}
 use Rattle.filter.specs.declared.any.AnyKind.TheVariants.{AsciiHex, Ascii85, SubFile, Eexec}

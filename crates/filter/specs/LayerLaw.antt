@@ -5,7 +5,7 @@ use Rattle.source.specs.declared.interface.Next.TheVariants.{Byte, End}
 use Rattle.source.specs.Model.{Model, first}
 use Rattle.source.specs.Gone.{gone_to}
 use Rattle.decoding.specs.Step.{StepOf, Own, fresh}
-use Rattle.decoding.specs.Decoding.{Decoding, decode}
+use Rattle.decoding.specs.Decoding.{decode}
 use Rattle.filter.specs.Layers.{stepped, layer_rest, layer_ending, layer_looked, handed}
 
 -- what may be asked of a filter

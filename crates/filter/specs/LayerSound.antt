@@ -1,9 +1,8 @@
-use Rattle.std.specs.Prelude.{◌≡◌, ℕ, Bool, true, false, List, [], ◌∷◌, ◌++◌, Some, None, Option, refl}
+use Rattle.std.specs.Prelude.{◌≡◌, ℕ, List, [], ◌∷◌, ◌++◌, Some, None, Option, refl}
 use Rattle.std.proofs.Common.{sym, ◌∙◌, ap, ap₂, append-nil, arith}
 use Rattle.source.specs.declared.ending.Ending.{Ending}
 use Rattle.source.specs.Model.{Model, tail}
 use Rattle.source.specs.Laws.{Lawful}
-use Rattle.source.specs.Gone.{gone_to}
 use Rattle.source.specs.Reads.{Read}
 use Rattle.source.proofs.Going.{gone_rest, gone_ending}
 use Rattle.decoding.specs.Step.{StepOf, LawfulStep, Own, Filled}

@@ -1,3 +1,5 @@
+#![tactic(auto)]
+
 mod any;
 mod filter;
 mod layer;

@@ -1,4 +1,4 @@
-use Rattle.std.specs.Prelude.{◌≡◌, ℕ, Bool, true, false, List, [], ◌∷◌, drop, refl}
+use Rattle.std.specs.Prelude.{ℕ, Bool, true, false, List, [], ◌∷◌, drop, refl}
 use Rattle.std.proofs.Common.{sym, ◌∙◌, ap}
 use Rattle.source.specs.Model.{Model, tail}
 use Rattle.source.specs.Laws.{Lawful}

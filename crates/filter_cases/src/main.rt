@@ -4,6 +4,8 @@
 // `hex`, `a85`, `eexec` or `sub:COUNT:MARK`; letters for what is asked of the topmost, `l` for a look, `t` for a take and
 // `*` for takes up to the end; `clean`, or the number and depth of a damage, as `22/1`; and the bytes of the source, as
 // `2F.61x128.20`. Empty lines and those that begin with `#` are passed over.
+#![tactic(auto)]
+
 mod filtercase;
 mod given;
 mod layers;

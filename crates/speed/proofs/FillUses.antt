@@ -1,5 +1,5 @@
-use Rattle.std.proofs.Common.{◌≡◌, ℕ, ◌+◌, ◌-◌, ◌<◌, ◌≤◌, min, Bool, true, false, ltb, List, [], ◌∷◌, ◌++◌, length, get_or, take, drop, set, sym, refl, ap, ◌∙◌, subst, arith}
-use Rattle.std.proofs.lemmas.List.{length-drop, take_all, drop_all, drop_more, drop-drop, take_more, take_more_set}
+use Rattle.std.proofs.Common.{◌≡◌, ℕ, ◌+◌, ◌<◌, ◌≤◌, min, true, false, List, [], ◌∷◌, ◌++◌, length, get_or, take, drop, set, sym, refl, ap, ◌∙◌, subst, arith}
+use Rattle.std.proofs.lemmas.List.{length-drop, take_all, drop_all, drop_more, take_more, take_more_set}
 use Rattle.std.proofs.lemmas.Bool.{lt-ltb, le-ltb}
 use Rattle.source.specs.declared.ending.Ending.{Ending}
 use Rattle.source.specs.declared.interface.Next.TheVariants.{Byte, End}
@@ -7,9 +7,9 @@ use Rattle.source.specs.Model.{Model, first, tail}
 use Rattle.source.specs.Laws.{Lawful}
 use Rattle.source.specs.Gone.{gone_to}
 use Rattle.source.proofs.Going.{byte_first, end_first}
-use Rattle.source.proofs.Walk.{Reach, reach_start, gone_here, took, ended, reach_took}
-use Rattle.scanner.specs.Scan.{Scan, Scans}
-use Rattle.scanner.proofs.Area.{Written, written_none, written_more, written_count, scans_at}
+use Rattle.source.proofs.Walk.{Reach, gone_here, took, ended}
+use Rattle.scanner.specs.Scan.{Scans}
+use Rattle.scanner.proofs.Area.{Written, written_none, written_more, scans_at}
 use Rattle.speed.specs.Fill.{fill_of}
 
 -- n bytes were taken and stand in the area

@@ -1,3 +1,5 @@
+#![tactic(auto)]
+
 mod decoders;
 mod filling;
 

@@ -1,3 +1,5 @@
+#![tactic(auto)]
+
 mod holding;
 mod mark;
 mod marking;

@@ -1,4 +1,4 @@
-use Rattle.std.proofs.Common.{◌≡◌, length, None}
+use Rattle.std.proofs.Common.{length, None}
 use Rattle.source.proofs.Walk.{Walk}
 use Rattle.ascii.specs.AsciiHex.{hex_at}
 use Rattle.ascii.proofs.asciihex.next_pair.Given as goal

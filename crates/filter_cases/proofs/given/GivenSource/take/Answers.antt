@@ -1,4 +1,4 @@
-use Rattle.std.proofs.Common.{◌≡◌, ℕ, Bool, true, false, List, sym, refl, ap, ◌∙◌}
+use Rattle.std.proofs.Common.{ℕ, true, List, sym, ap, ◌∙◌}
 use Rattle.std.proofs.lemmas.List.{drop_more, drop_all}
 use Rattle.source.specs.Model.{first, tail}
 use Rattle.filter_cases.specs.Lent.{Held, none}

@@ -1,7 +1,7 @@
-// Links the proved decoders: `rt staticlib speed` makes the library.
+// Links the proved decoders: `rt lib`, in crates/speed, makes the library.
 fn main() {
     let root = std::env::var("CARGO_MANIFEST_DIR").unwrap();
-    println!("cargo:rustc-link-search=native={root}/../target/staticlib");
+    println!("cargo:rustc-link-search=native={root}/../crates/speed/out");
     println!("cargo:rustc-link-lib=static=speed");
-    println!("cargo:rerun-if-changed={root}/../target/staticlib/libspeed.a");
+    println!("cargo:rerun-if-changed={root}/../crates/speed/out/libspeed.a");
 }

@@ -1,4 +1,4 @@
-//! The proved decoders, from `target/staticlib/libspeed.a`. A slice passes as a pointer and a length.
+//! The proved decoders, from `crates/speed/out/libspeed.a`. A slice passes as a pointer and a length.
 unsafe extern "C" {
     fn decode_ascii_hex(input: *const u8, length: usize, output: *mut u8, room: usize) -> usize;
     fn decode_ascii_85(input: *const u8, length: usize, output: *mut u8, room: usize) -> usize;

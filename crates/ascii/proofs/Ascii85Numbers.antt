@@ -19,24 +19,13 @@ digits_worth v =
     omega arith
 
 -- the bytes of a number
-first_byte : (a b c d : ℕ) → a < 256 → b < 256 → c < 256 → d < 256 → number4 a b c d / 16777216 ≡ a
-first_byte a b c d p q r s = omega arith
-
-second_byte : (a b c d : ℕ) → a < 256 → b < 256 → c < 256 → d < 256 → number4 a b c d / 65536 % 256 ≡ b
-second_byte a b c d p q r s = omega arith
-
-third_byte : (a b c d : ℕ) → a < 256 → b < 256 → c < 256 → d < 256 → number4 a b c d / 256 % 256 ≡ c
-third_byte a b c d p q r s = omega arith
-
-fourth_byte : (a b c d : ℕ) → a < 256 → b < 256 → c < 256 → d < 256 → number4 a b c d % 256 ≡ d
-fourth_byte a b c d p q r s = omega arith
-
 pub number_bytes : (a b c d : ℕ) → a < 256 → b < 256 → c < 256 → d < 256 → bytes4 (number4 a b c d) ≡ a ∷ b ∷ c ∷ d ∷ []
 number_bytes a b c d p q r s =
-    list4 (first_byte a b c d p q r s) (second_byte a b c d p q r s) (third_byte a b c d p q r s) (fourth_byte a b c d p q r s)
-  where
-    list4 : {a b c d x y z w : ℕ} → a ≡ x → b ≡ y → c ≡ z → d ≡ w → a ∷ b ∷ c ∷ d ∷ [] ≡ x ∷ y ∷ z ∷ w ∷ []
-    list4 p q r s = cc
+    let first : number4 a b c d / 16777216 ≡ a = omega arith in
+    let second : number4 a b c d / 65536 % 256 ≡ b = omega arith in
+    let third : number4 a b c d / 256 % 256 ≡ c = omega arith in
+    let fourth : number4 a b c d % 256 ≡ d = omega arith in
+    cc
 
 -- what the first digits of a number are worth
 two_digits : (v : ℕ) → v / 52200625 * 85 + v / 614125 % 85 ≡ v / 614125

@@ -1,4 +1,4 @@
-use Rattle.std.proofs.Common.{◌≡◌, ℕ, ◌+◌, ◌<◌, ◌≤◌, Bool, true, false, cond, eqb, List, [], ◌∷◌, ◌++◌, length, Some, None, Option, sym, refl, ap, ◌∙◌, append_assoc, append-nil, arith, length-append}
+use Rattle.std.proofs.Common.{◌≡◌, ℕ, ◌+◌, ◌<◌, ◌≤◌, Bool, true, false, cond, eqb, List, [], ◌∷◌, ◌++◌, length, None, Result, Ok, Err, sym, refl, ap, ◌∙◌, append_assoc, append-nil, arith, length-append}
 use Rattle.std.proofs.lemmas.Bool.{lt-ltb}
 use Rattle.std.proofs.lemmas.Bool.Decides.{nat_tests}
 use Rattle.source.specs.declared.ending.Damage.TheVariants as damage
@@ -25,7 +25,7 @@ pub record Passed (s : List ℕ) (f : ℕ) (t : List ℕ) : Type 0 where
       (ds r : List ℕ) (e : Ending) → a85_at ds (s ++ r) e ≡ a85_turn (byte_85_of f) ds (behind ++ r) e (λ ds. a85_at ds (behind ++ r) e)
 
 pub passed : (s : List ℕ) (f : ℕ) (t : List ℕ) → unspaced s ≡ f ∷ t → Passed s f t
-passed [] f t q = let z : ◌≡◌ {A = ℕ} 0 1 = cc in let no_way : ⊥ = omega arith in absurd no_way
+passed [] f t q = absurd (cc)
 passed (b ∷ s) f t q = by (white b) refl (λ k. passed s f t k) q
   where
     by : (w : Bool) → white b ≡ w → (unspaced s ≡ f ∷ t → Passed s f t) → cond w (unspaced s) (b ∷ unspaced s) ≡ f ∷ t → Passed (b ∷ s) f t
@@ -64,22 +64,22 @@ gone (d ∷ new) ds s t q h e =
     }
 
 -- what stands behind ~
-pub closed : (s r : List ℕ) (e : Ending) → unspaced s ≡ [] → a85_mark (s ++ 62 ∷ r) e ≡ record { answer = None; left = r; peeked = false }
+pub closed : (s r : List ℕ) (e : Ending) → unspaced s ≡ [] → a85_mark (s ++ 62 ∷ r) e ≡ record { answer = Ok tt; left = r; peeked = false }
 closed [] r e q = refl
 closed (b ∷ s) r e q = by (white b) refl (λ k. closed s r e k) q
   where
     by :
-        (w : Bool) → white b ≡ w → (unspaced s ≡ [] → a85_mark (s ++ 62 ∷ r) e ≡ record { answer = None; left = r; peeked = false })
-        → cond w (unspaced s) (b ∷ unspaced s) ≡ [] → a85_mark (b ∷ (s ++ 62 ∷ r)) e ≡ record { answer = None; left = r; peeked = false }
+        (w : Bool) → white b ≡ w → (unspaced s ≡ [] → a85_mark (s ++ 62 ∷ r) e ≡ record { answer = Ok tt; left = r; peeked = false })
+        → cond w (unspaced s) (b ∷ unspaced s) ≡ [] → a85_mark (b ∷ (s ++ 62 ∷ r)) e ≡ record { answer = Ok tt; left = r; peeked = false }
     by true w again q =
-        ap (λ c. cond c (a85_mark (s ++ 62 ∷ r) e) (record { answer = cond (eqb b 62) None (Some (Damaged damage.Stray 0)); left = s ++ 62 ∷ r; peeked = false })) w
+        ap (λ c. cond c (a85_mark (s ++ 62 ∷ r) e) (record { answer = cond (eqb b 62) (Ok tt) (Err (Damaged damage.Stray 0)); left = s ++ 62 ∷ r; peeked = false })) w
         ∙ again q
-    by false w again q = let z : ◌≡◌ {A = ℕ} 0 1 = cc in let no_way : ⊥ = omega arith in absurd no_way
+    by false w again q = absurd (cc)
 
 -- the last digits, ~ and >
 pub ended : (ds s r : List ℕ) (e : Ending) → unspaced s ≡ 126 ∷ [] → a85_at ds (s ++ 62 ∷ r) e ≡ stopped (a85_last ds) r
 ended ds s r e q =
     let k = passed s 126 [] q in
     k.on ds (62 ∷ r) e
-    ∙ ap (λ (m : Read (Option Ending)). let z : Read (Own A85State) = record { answer = a85_judged ds m.answer; left = m.left; peeked = m.peeked } in z)
+    ∙ ap (λ (m : Read (Result (Unit {0}) Ending)). let z : Read (Own A85State) = record { answer = a85_judged ds m.answer; left = m.left; peeked = m.peeked } in z)
     (closed k.behind r e k.spaced)

@@ -1,3 +1,4 @@
+pub mod MadeUses
 pub mod Ready4Uses
 pub mod AsciiHexUses
 pub mod AsciiHexLawful

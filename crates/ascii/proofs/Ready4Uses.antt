@@ -1,30 +1,32 @@
-use Rattle.std.proofs.Common.{◌≡◌, ℕ, zero, suc, ◌+◌, ◌-◌, ◌*◌, ◌/◌, ◌%◌, ◌<◌, take, Some, refl, arith}
+use Rattle.std.proofs.Common.{◌≡◌, ℕ, zero, suc, ◌+◌, ◌-◌, ◌*◌, ◌/◌, ◌%◌, ◌^◌, ◌<◌, List, [], ◌∷◌, take, drop, min, refl, sym, ap, arith, length-take, add-one}
+use Rattle.std.proofs.lemmas.List.{drop_all}
+use Rattle.std.specs.Int.{w32, to_be_bytes}
 use Rattle.source.specs.Model.{tail}
-use Rattle.decoding.specs.Step.{head_of}
+use Rattle.source.proofs.Going.{drop_nil}
 use Rattle.ascii.specs.Ready4.{bytes4}
 
--- the first byte of a number, with some of the last missing
-pub first_ready : (missing v : ℕ) → missing < 4 → Some (v / 16777216) ≡ head_of (take (4 - missing) (bytes4 v))
-first_ready zero v h = refl
-first_ready (suc zero) v h = refl
-first_ready (suc (suc zero)) v h = refl
-first_ready (suc (suc (suc zero))) v h = refl
-first_ready (suc (suc (suc (suc m)))) v h = absurd (omega arith)
+drop_suc : (p : ℕ) (l : List ℕ) → drop (suc p) l ≡ tail (drop p l)
+drop_suc p [] = ap tail (sym (drop_nil p))
+drop_suc zero (x ∷ l) = refl
+drop_suc (suc p) (x ∷ l) = drop_suc p l
 
--- without its first byte a number has its other bytes in front
-second : (v : ℕ) → v % 16777216 * 256 / 16777216 ≡ v / 65536 % 256
-second v = omega arith
+-- one place further, as far as a byte counts
+pub others_ready : (place next : ℕ) (bytes : List ℕ) → next ≡ min (place + 1) 255 → drop next (take 4 bytes) ≡ tail (drop place (take 4 bytes))
+others_ready place next bytes e = grind (arith, add-one, drop_suc, drop_all, length-take)
 
-third : (v : ℕ) → v % 16777216 * 256 / 65536 % 256 ≡ v / 256 % 256
-third v = omega arith
-
-fourth : (v : ℕ) → v % 16777216 * 256 / 256 % 256 ≡ v % 256
-fourth v = omega arith
-
-pub others_ready : (missing v : ℕ) → missing < 4
-    → take (4 - (missing + 1)) (bytes4 (v % 16777216 * 256)) ≡ tail (take (4 - missing) (bytes4 v))
-others_ready zero v h = let a = second v in let b = third v in let c = fourth v in cc
-others_ready (suc zero) v h = let a = second v in let b = third v in cc
-others_ready (suc (suc zero)) v h = let a = second v in cc
-others_ready (suc (suc (suc zero))) v h = refl
-others_ready (suc (suc (suc (suc m)))) v h = absurd (omega arith)
+-- a number without its last bytes has the others behind zeros
+pub number_ready : (missing v : ℕ) → missing < 4 → v < 4294967296
+    → drop missing (take 4 (to_be_bytes w32 (v / 2 ^ (8 * missing)))) ≡ take (4 - missing) (bytes4 v)
+number_ready zero v h k =
+    let a : v / 1 / 16777216 % 256 ≡ v / 16777216 = omega arith in
+    let b : v / 1 / 65536 % 256 ≡ v / 65536 % 256 = omega arith in
+    let c : v / 1 / 256 % 256 ≡ v / 256 % 256 = omega arith in
+    let d : v / 1 % 256 ≡ v % 256 = omega arith in
+    cc
+number_ready (suc zero) v h k =
+    let a : v / 256 / 65536 % 256 ≡ v / 16777216 = omega arith in
+    let b : v / 256 / 256 % 256 ≡ v / 65536 % 256 = omega arith in
+    cc
+number_ready (suc (suc zero)) v h k = let a : v / 65536 / 256 % 256 ≡ v / 16777216 = omega arith in cc
+number_ready (suc (suc (suc zero))) v h k = let a : v / 16777216 % 256 ≡ v / 16777216 = omega arith in cc
+number_ready (suc (suc (suc (suc m)))) v h k = absurd (omega arith)

@@ -1,4 +1,4 @@
-use Rattle.std.specs.Prelude.{◌≡◌, ℕ, ◌+◌, ◌-◌, ◌*◌, ◌<◌, ◌≤◌, true, false, cond, List, [], ◌∷◌, ◌++◌, length, take, Some, None, Option, ◌==◌, nat_le, nat_lt}
+use Rattle.std.specs.Prelude.{◌≡◌, ℕ, ◌+◌, ◌-◌, ◌*◌, ◌<◌, ◌≤◌, true, false, cond, List, [], ◌∷◌, ◌++◌, length, take, Some, None, Option, Result, Ok, Err, ◌==◌, nat_le, nat_lt}
 use Rattle.source.specs.declared.ending.Damage.TheVariants as damage
 use Rattle.source.specs.declared.ending.Ending.{Ending}
 use Rattle.source.specs.declared.ending.Ending.TheVariants.{Clean, Damaged}
@@ -7,6 +7,7 @@ use Rattle.source.specs.Reads.{Read}
 use Rattle.ascii.specs.declared.ascii85.Byte85.{Byte85}
 use Rattle.ascii.specs.declared.ascii85.Byte85.TheVariants.{Digit, White, Zero, Tilde, Stray}
 use Rattle.ascii.specs.declared.ascii85.Ascii85.{Ascii85}
+use Rattle.ascii.specs.declared.ascii85.Group.{Group}
 use Rattle.decoding.specs.Ends.{above}
 use Rattle.ascii.specs.Ready4.{bytes4, listed}
 use Rattle.decoding.specs.Step.{Holds, Own, StepOf, stops}
@@ -62,16 +63,16 @@ a85_last (a ∷ b ∷ c ∷ []) = a85_group 2 (value85 (a ∷ b ∷ c ∷ 84 ∷
 a85_last (a ∷ b ∷ c ∷ d ∷ more) = a85_group 3 (value85 (a ∷ b ∷ c ∷ d ∷ 84 ∷ [])) (Some Clean)
 
 -- behind ~: white bytes are passed over, up to >; where that does not come, how it ends
-abbrev pub a85_mark : List ℕ → Ending → Read (Option Ending)
-a85_mark [] e = record { answer = Some (above e); left = []; peeked = true }
+abbrev pub a85_mark : List ℕ → Ending → Read (Result (Unit {0}) Ending)
+a85_mark [] e = record { answer = Err (above e); left = []; peeked = true }
 a85_mark (b ∷ bs) e =
     cond (white b) (a85_mark bs e)
-    (record { answer = cond (b == 62) None (Some (Damaged damage.Stray 0)); left = bs; peeked = false })
+    (record { answer = cond (b == 62) (Ok tt) (Err (Damaged damage.Stray 0)); left = bs; peeked = false })
 
 -- the digits before ~ are judged once > has come
-abbrev pub a85_judged : List ℕ → Option Ending → Own A85State
-a85_judged digits None = a85_last digits
-a85_judged digits (Some x) = holding [] (Some x)
+abbrev pub a85_judged : List ℕ → Result (Unit {0}) Ending → Own A85State
+a85_judged digits (Ok u) = a85_last digits
+a85_judged digits (Err x) = holding [] (Some x)
 
 abbrev pub a85_close : List ℕ → List ℕ → Ending → Read (Own A85State)
 a85_close digits rest e = record {
@@ -103,8 +104,8 @@ abbrev pub a85_step : StepOf A85State
 a85_step k c bs e = a85_at [] bs e
 
 -- what the code keeps of the digits: how many they are and what they are worth
-pub record Pending (digits : List ℕ) (count value : ℕ) : Type 0 where
-  pub many : count ≡ length digits
-  pub worth : value ≡ value85 digits
-  pub few : count ≤ 4
+pub record Pending (digits : List ℕ) (group : Group) : Type 0 where
+  pub many : group.count ≡ length digits
+  pub worth : group.value ≡ value85 digits
+  pub few : group.count ≤ 4
   pub low : Below85 digits

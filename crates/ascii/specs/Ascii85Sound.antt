@@ -1,5 +1,5 @@
-use Rattle.std.specs.Prelude.{◌≡◌, ℕ, suc, ◌+◌, ◌/◌, ◌%◌, ◌≤◌, Bool, true, false, cond, List, [], ◌∷◌, ◌++◌, length, take, Some, None, Option, ◌==◌, nat_le, nat_lt, refl}
-use Rattle.std.proofs.Common.{sym, ◌∙◌, arith, length-take}
+use Rattle.std.specs.Prelude.{◌≡◌, ℕ, suc, ◌+◌, ◌/◌, ◌%◌, ◌≤◌, Bool, true, false, cond, List, [], ◌∷◌, ◌++◌, length, take, Some, None, Result, Ok, Err, ◌==◌, nat_le, nat_lt, refl}
+use Rattle.std.proofs.Common.{sym, ◌∙◌, arith, length-drop, length-take}
 use Rattle.source.specs.declared.ending.Damage.TheVariants as damage
 use Rattle.source.specs.declared.ending.Ending.{Ending}
 use Rattle.source.specs.declared.ending.Ending.TheVariants.{Clean, Damaged}
@@ -18,8 +18,8 @@ use Rattle.decoding.specs.SoundSteps.{none_some, false_true, sound_byte, sound_l
 use Rattle.ascii.specs.Ascii85.{A85State, a85_holds, byte_85_of, value85, holding, a85_group, a85_last, a85_mark, a85_judged, a85_zeros, stopped, a85_turn, a85_at, a85_step}
 
 -- what is taken behind ~
-mark_by : (c : Bool) (b : ℕ) (bs : List ℕ) (s : Read (Option Ending)) (o : Option Ending) → Steady bs s.left s.peeked → (s.peeked ≡ true → s.left ≡ [])
-    → let r : Read (Option Ending) = cond c s (record { answer = o; left = bs; peeked = false }) in
+mark_by : (c : Bool) (b : ℕ) (bs : List ℕ) (s : Read (Result (Unit {0}) Ending)) (o : Result (Unit {0}) Ending) → Steady bs s.left s.peeked → (s.peeked ≡ true → s.left ≡ [])
+    → let r : Read (Result (Unit {0}) Ending) = cond c s (record { answer = o; left = bs; peeked = false }) in
     Steady (b ∷ bs) r.left r.peeked × (r.peeked ≡ true → r.left ≡ [])
 mark_by true b bs s o q w = (steady_then (steady_next b bs) q, w)
 mark_by false b bs s o q w = (steady_next b bs, λ e. false_true e)
@@ -28,7 +28,7 @@ mark_sound : (rest : List ℕ) (e : Ending)
     → Steady rest (a85_mark rest e).left (a85_mark rest e).peeked × ((a85_mark rest e).peeked ≡ true → (a85_mark rest e).left ≡ [])
 mark_sound [] e = (steady_here [], λ q. refl)
 mark_sound (b ∷ bs) e =
-    mark_by (white b) b bs (a85_mark bs e) (cond (b == 62) None (Some (Damaged damage.Stray 0))) (mark_sound bs e).0 (mark_sound bs e).1
+    mark_by (white b) b bs (a85_mark bs e) (cond (b == 62) (Ok tt) (Err (Damaged damage.Stray 0))) (mark_sound bs e).0 (mark_sound bs e).1
 
 pub mark_steady : (rest : List ℕ) (e : Ending) → Steady rest (a85_mark rest e).left (a85_mark rest e).peeked
 mark_steady rest e = (mark_sound rest e).0
@@ -64,9 +64,9 @@ last_ended (a ∷ b ∷ []) = group_ended _ (take 1 (bytes4 (value85 (a ∷ b �
 last_ended (a ∷ b ∷ c ∷ []) = group_ended _ (take 2 (bytes4 (value85 (a ∷ b ∷ c ∷ 84 ∷ 84 ∷ []))))
 last_ended (a ∷ b ∷ c ∷ d ∷ ds) = group_ended _ (take 3 (bytes4 (value85 (a ∷ b ∷ c ∷ d ∷ 84 ∷ []))))
 
-judged_ended : (digits : List ℕ) (o : Option Ending) → Ended (a85_judged digits o)
-judged_ended digits None = last_ended digits
-judged_ended digits (Some x) = ended_by [] x
+judged_ended : (digits : List ℕ) (r : Result (Unit {0}) Ending) → Ended (a85_judged digits r)
+judged_ended digits (Ok u) = last_ended digits
+judged_ended digits (Err x) = ended_by [] x
 
 group_sound : (t : Bool) (b : ℕ) (bs : List ℕ) (x : ℕ) (xs : List ℕ)
     → Sound (suc (length bs)) (b ∷ bs) (stopped (cond t (holding (x ∷ xs) None) (holding [] (Some (Damaged damage.Overflow 0)))) bs)
@@ -103,4 +103,4 @@ a85_lawful k c bs e = sound_behind (behind_self bs) (omega arith) (at_sound [] b
 
 -- four bytes at the most
 pub a85_within : (f : Ascii85) → length (a85_holds f).ready + 0 ≤ 4
-a85_within f = simp length-take (omega arith)
+a85_within f = simp (length-drop, length-take) (omega arith)

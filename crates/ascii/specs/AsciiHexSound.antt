@@ -8,10 +8,11 @@ use Rattle.source.specs.declared.hex.HexTurn.{HexTurn}
 use Rattle.source.specs.declared.hex.HexTurn.TheVariants.{Wait, Put, Last, Done, Stray}
 use Rattle.source.specs.Hex.{hex_byte_of, hex_turn_of}
 use Rattle.source.specs.Reads.{Read}
+use Rattle.source.proofs.Going.{behind_self}
 use Rattle.ascii.specs.declared.asciihex.AsciiHex.{AsciiHex}
 use Rattle.decoding.specs.Ends.{above}
 use Rattle.decoding.specs.Step.{Own, Sound, LawfulStep}
-use Rattle.decoding.specs.SoundSteps.{sound_byte, sound_last, sound_stop, sound_on}
+use Rattle.decoding.specs.SoundSteps.{sound_byte, sound_last, sound_stop, sound_behind, sound_on}
 use Rattle.ascii.specs.AsciiHex.{HexState, hex_holds, hex_turn, hex_at, hex_step}
 
 turn_sound :
@@ -28,10 +29,7 @@ at_sound pending [] e = sound_stop tt 0 (above e)
 at_sound pending (b ∷ bs) e = turn_sound (hex_turn_of pending (hex_byte_of b)) b bs (λ half. hex_at half bs e) (λ half. at_sound half bs e)
 
 pub hex_lawful : LawfulStep HexState hex_step
-hex_lawful k c bs e = sound_behind_self c bs (at_sound None bs e)
-  where
-    sound_behind_self : (c bs : List ℕ) {s : Read (Own HexState)} → Sound (length bs) bs s → Sound (length c + length bs) bs s
-    sound_behind_self c bs q = record { behind = q.behind; met_end = q.met_end; fills = q.fills; falls = λ o. omega (arith, q.falls o); ends = q.ends }
+hex_lawful k c bs e = sound_behind (behind_self bs) (omega arith) (at_sound None bs e)
 
 -- one byte at the most
 pub hex_within : (f : AsciiHex) → length (hex_holds f).ready + 0 ≤ 1

@@ -1,8 +1,7 @@
-use Rattle.std.specs.Prelude.{[]}
-use Rattle.std.specs.Option.{option_to_list}
+use Rattle.std.specs.Prelude.{ℕ, List, []}
 use Rattle.ascii.specs.declared.made.Made.{Made}
 use Rattle.decoding.specs.Step.{Own}
 
--- what is held once a step has made a byte, or an ending, or both
-abbrev pub own_made : {K : Type 0} → K → Made → Own K
-own_made k m = record { ready = option_to_list m.byte; compared = []; kind = k; ended = m.ended }
+-- what is held once a step has made some bytes, or an ending, or both, where `bytes` says which bytes are ready
+abbrev pub own_made : {K R : Type 0} → (R → List ℕ) → K → Made R → Own K
+own_made bytes k m = record { ready = bytes m.ready; compared = []; kind = k; ended = m.ended }

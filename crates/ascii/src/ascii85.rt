@@ -1,17 +1,19 @@
-ghost use Rattle.std.specs.Prelude.{◌≡◌, ℕ, ◌+◌, ◌-◌, ◌*◌, List, [], length, None};
+ghost use Rattle.std.specs.Prelude.{◌≡◌, ℕ, ◌+◌, ◌-◌, ◌*◌, ◌<◌, List, [], length, None};
 ghost use Rattle.source.specs.Reads.{Reads};
-ghost use Rattle.ascii.specs.Ready4.{own_made4};
+ghost use Rattle.ascii.specs.Made.{own_made};
+ghost use Rattle.ascii.specs.Ready4.{listed};
 ghost use Rattle.ascii.specs.Ascii85.{A85State, a85_holds, byte_85_of, a85_group, a85_zeros, a85_last, a85_mark, a85_close, a85_at, a85_step, Pending};
 ghost use Rattle.ascii.specs.Ascii85Sound.{a85_lawful, a85_within};
 ghost use Rattle.ascii.specs.Ascii85Law.{Ascii85Law};
 ghost use Rattle.ascii.specs.Ascii85Examples.{Ascii85Examples};
 
-use crate::ready4::{Made4, Ready4};
+use crate::made::Made;
+use crate::ready4::Ready4;
 use decoding::{Kind, ending_above};
-use source::{Damage, Ending, Next, Source, is_white};
+use source::{Damage, Ending, Source, is_white};
 
 // What a byte is in base-85 data.
-#[derive(Clone, Copy)]
+#[derive(Clone, Copy, Debug, PartialEq, Eq)]
 enum Byte85 {
     // by its value, 0 to 84
     Digit(u8),
@@ -24,7 +26,7 @@ enum Byte85 {
 }
 
 // ASCII85Decode: five digits in base 85 to four bytes, up to `~>`.
-#[derive(Clone, Copy)]
+#[derive(Clone, Copy, Debug, PartialEq, Eq)]
 pub struct Ascii85 {
     ready: Ready4,
 }
@@ -36,10 +38,7 @@ impl Ascii85 {
         ensures examples { Ascii85Examples }
     {
         Ascii85 {
-            ready: Ready4 {
-                number: 0,
-                missing: 4,
-            },
+            ready: Ready4::default(),
         }
     }
 }
@@ -48,127 +47,121 @@ impl Ascii85 {
 fn byte_of(b: u8) -> Byte85
     ensures { result ≡ byte_85_of b }
 {
-    if b >= b'!' && b <= b'u' {
-        return Byte85::Digit(b - b'!');
-    }
     match b {
+        b'!'..=b'u' => Byte85::Digit(b - b'!'),
         b'z' => Byte85::Zero,
         b'~' => Byte85::Tilde,
-        _ => if is_white(b) {
-            Byte85::White
-        } else {
-            Byte85::Stray
-        },
+        _ if is_white(b) => Byte85::White,
+        _ => Byte85::Stray,
     }
 }
 
-// What a group with the number v makes, of whose bytes so many are missing at the end.
-fn group(missing: u8, v: u64, ended: Option<Ending>) -> Made4
-    ensures { own_made4 tt result ≡ a85_group (4 - missing) v ended }
+// What a group with the number v makes, of whose bytes so many of the last are missing.
+fn made_of(v: u64, missing: u8, ended: Option<Ending>) -> Made<Ready4>
+    requires { missing < 4 }
+    ensures { own_made listed tt result ≡ a85_group (4 - missing) v ended }
 {
-    if v <= 4294967295 {
-        Made4 {
-            ready: Ready4 {
-                number: v as u32,
-                missing,
-            },
+    match u32::try_from(v) {
+        Ok(number) => Made {
+            ready: Ready4::of_number(number, missing),
             ended,
-        }
-    } else {
-        Made4::end(Ending::Damaged(Damage::Overflow, 0))
+        },
+        Err(_) => Made::end(Ending::Damaged(Damage::Overflow, 0)),
     }
 }
 
-// What four digits, by their number, and a fifth make.
-fn whole(value: u32, digit: u8) -> Made4
-    ensures { own_made4 tt result ≡ a85_group 4 (value * 85 + digit) None }
-{
-    group(0, value as u64 * 85 + digit as u64, None)
+// The digits of a group that are pending: how many they are, four at most, and what they are worth.
+#[derive(Clone, Copy, Debug, Default, PartialEq, Eq)]
+struct Group {
+    count: u8,
+    value: u32,
 }
 
-// What the pending digits make at the end of the data: two to four are filled up with digits 84 to five.
-fn last(count: u8, value: u32) -> Made4
-    ensures { (digits : List ℕ) → Pending digits count value → own_made4 tt result ≡ a85_last digits }
-{
-    let v = value as u64;
-    match count {
-        0 => Made4::end(Ending::Clean),
-        1 => Made4::end(Ending::Damaged(Damage::LoneDigit, 0)),
-        2 => group(3, v * 614125 + 614124, Some(Ending::Clean)),
-        3 => group(2, v * 7225 + 7224, Some(Ending::Clean)),
-        _ => group(1, v * 85 + 84, Some(Ending::Clean)),
+impl Group {
+    // Takes one more digit on, behind three at most.
+    fn push(&mut self, digit: u8)
+        requires few { self.old.count < 4 }
+        requires low { self.old.value < 614125 }
+        ensures { self.new ≡ record { count = self.old.count + 1; value = self.old.value * 85 + digit } }
+    {
+        self.count += 1;
+        self.value = self.value * 85 + u32::from(digit);
     }
-}
 
-// What `z` makes behind so many pending digits.
-fn zeros(count: u8) -> Made4
-    ensures { (digits : List ℕ) → count ≡ length digits → own_made4 tt result ≡ a85_zeros digits }
-{
-    if count == 0 {
-        Made4 {
-            ready: Ready4 {
-                number: 0,
-                missing: 0,
-            },
-            ended: None,
+    // What four digits and a fifth make.
+    fn whole(self, digit: u8) -> Made<Ready4>
+        ensures { own_made listed tt result ≡ a85_group 4 (self.value * 85 + digit) None }
+    {
+        made_of(u64::from(self.value) * 85 + u64::from(digit), 0, None)
+    }
+
+    // What they make at the end of the data: two to four are filled up with digits 84 to five.
+    fn last(self) -> Made<Ready4>
+        ensures { (digits : List ℕ) → Pending digits self → own_made listed tt result ≡ a85_last digits }
+    {
+        let v = u64::from(self.value);
+        match self.count {
+            0 => Made::end(Ending::Clean),
+            1 => Made::end(Ending::Damaged(Damage::LoneDigit, 0)),
+            2 => made_of(v * 614125 + 614124, 3, Some(Ending::Clean)),
+            3 => made_of(v * 7225 + 7224, 2, Some(Ending::Clean)),
+            _ => made_of(v * 85 + 84, 1, Some(Ending::Clean)),
         }
-    } else {
-        Made4::end(Ending::Damaged(Damage::Stray, 0))
+    }
+
+    // What `z` makes behind them.
+    fn zeros(self) -> Made<Ready4>
+        ensures { (digits : List ℕ) → self.count ≡ length digits → own_made listed tt result ≡ a85_zeros digits }
+    {
+        if self.count == 0 {
+            made_of(0, 0, None)
+        } else {
+            Made::end(Ending::Damaged(Damage::Stray, 0))
+        }
+    }
+
+    // What they make behind `~`.
+    fn close<S: Source>(self, below: &mut S) -> Made<Ready4>
+        ensures { (digits : List ℕ) → Pending digits self → Reads S.Source.model (a85_close digits) (S.Source.held below.old) (own_made listed tt result) (S.Source.held below.new) }
+    {
+        match take_mark(below) {
+            Ok(()) => self.last(),
+            Err(ending) => Made::end(ending),
+        }
     }
 }
 
 // Takes what stands behind `~` up to `>`, or answers how it ends where `>` does not come.
-fn take_mark<S: Source>(below: &mut S) -> Option<Ending>
+fn take_mark<S: Source>(below: &mut S) -> Result<(), Ending>
     ensures { Reads S.Source.model a85_mark (S.Source.held below.old) result (S.Source.held below.new) }
 {
     loop {
-        let b = match below.take() {
-            Next::End(ending) => return Some(ending_above(ending)),
-            Next::Byte(b) => b,
-        };
-        if !is_white(b) {
-            return if b == b'>' {
-                None
-            } else {
-                Some(Ending::Damaged(Damage::Stray, 0))
-            };
+        match below.take() {
+            Ok(b'>') => return Ok(()),
+            Ok(b) if is_white(b) => {}
+            Ok(_) => return Err(Ending::Damaged(Damage::Stray, 0)),
+            Err(ending) => return Err(ending_above(ending)),
         }
     }
 }
 
-// What the pending digits make behind `~`.
-fn close<S: Source>(below: &mut S, count: u8, value: u32) -> Made4
-    ensures { (digits : List ℕ) → Pending digits count value → Reads S.Source.model (a85_close digits) (S.Source.held below.old) (own_made4 tt result) (S.Source.held below.new) }
-{
-    match take_mark(below) {
-        None => last(count, value),
-        Some(ending) => Made4::end(ending),
-    }
-}
-
 // Takes a group, or up to the end of the data.
-fn next_group<S: Source>(below: &mut S) -> Made4
-    ensures { Reads S.Source.model (a85_at []) (S.Source.held below.old) (own_made4 tt result) (S.Source.held below.new) }
+fn next_group<S: Source>(below: &mut S) -> Made<Ready4>
+    ensures { Reads S.Source.model (a85_at []) (S.Source.held below.old) (own_made listed tt result) (S.Source.held below.new) }
 {
-    let mut count = 0;
-    let mut value = 0;
+    let mut group = Group::default();
     loop {
         let b = match below.take() {
-            Next::End(ending) => return Made4::end(ending_above(ending)),
-            Next::Byte(b) => b,
+            Ok(b) => b,
+            Err(ending) => return Made::end(ending_above(ending)),
         };
         match byte_of(b) {
             Byte85::White => {}
-            Byte85::Digit(d) => {
-                if count == 4 {
-                    return whole(value, d);
-                }
-                count += 1;
-                value = value * 85 + d as u32;
-            }
-            Byte85::Zero => return zeros(count),
-            Byte85::Tilde => return close(below, count, value),
-            Byte85::Stray => return Made4::end(Ending::Damaged(Damage::Stray, 0)),
+            Byte85::Digit(d) if group.count == 4 => return group.whole(d),
+            Byte85::Digit(d) => group.push(d),
+            Byte85::Zero => return group.zeros(),
+            Byte85::Tilde => return group.close(below),
+            Byte85::Stray => return Made::end(Ending::Damaged(Damage::Stray, 0)),
         }
     }
 }
@@ -176,7 +169,7 @@ fn next_group<S: Source>(below: &mut S) -> Made4
 impl Kind for Ascii85 {
     const MOST: usize = 4;
 
-    ghost most = { 4 };
+    ghost MOST = { 4 };
 
     ghost State = { A85State };
 
@@ -204,9 +197,5 @@ impl Kind for Ascii85 {
 
     fn count(&self) -> usize {
         self.ready.count()
-    }
-
-    fn most_held() -> usize {
-        Self::MOST
     }
 }

@@ -1,4 +1,5 @@
 ghost use Rattle.std.specs.Prelude.{◌≡◌, [], None};
+ghost use Rattle.std.specs.Option.{option_to_list};
 ghost use Rattle.source.specs.Reads.{Reads};
 ghost use Rattle.ascii.specs.Made.{own_made};
 ghost use Rattle.ascii.specs.AsciiHex.{HexState, hex_holds, hex_at, hex_step};
@@ -8,10 +9,10 @@ ghost use Rattle.ascii.specs.AsciiHexSound.{hex_lawful, hex_within};
 
 use crate::made::Made;
 use decoding::{Kind, ending_above};
-use source::{Damage, Ending, HexTurn, Next, Source, hex_turn};
+use source::{Damage, Ending, HexTurn, Source, hex_turn};
 
 // ASCIIHexDecode: two hexadecimal digits to a byte, up to `>`.
-#[derive(Clone, Copy)]
+#[derive(Clone, Copy, Debug, PartialEq, Eq)]
 pub struct AsciiHex {
     ready: Option<u8>,
 }
@@ -28,36 +29,24 @@ impl AsciiHex {
 }
 
 // Takes two digits, or up to the end.
-fn next_pair<S: Source>(below: &mut S) -> Made
-    ensures { Reads S.Source.model (hex_at None) (S.Source.held below.old) (own_made tt result) (S.Source.held below.new) }
+fn next_pair<S: Source>(below: &mut S) -> Made<Option<u8>>
+    ensures { Reads S.Source.model (hex_at None) (S.Source.held below.old) (own_made option_to_list tt result) (S.Source.held below.new) }
 {
     let mut pending = None;
     loop {
         let b = match below.take() {
-            Next::End(ending) => return Made {
-                byte: None,
-                ended: Some(ending_above(ending)),
-            },
-            Next::Byte(b) => b,
+            Ok(b) => b,
+            Err(ending) => return Made::end(ending_above(ending)),
         };
         match hex_turn(pending, b) {
             HexTurn::Wait(half) => pending = half,
-            HexTurn::Put(v) => return Made {
-                byte: Some(v),
-                ended: None,
-            },
+            HexTurn::Put(v) => return Made::more(Some(v)),
             HexTurn::Last(v) => return Made {
-                byte: Some(v),
+                ready: Some(v),
                 ended: Some(Ending::Clean),
             },
-            HexTurn::Done => return Made {
-                byte: None,
-                ended: Some(Ending::Clean),
-            },
-            HexTurn::Stray => return Made {
-                byte: None,
-                ended: Some(Ending::Damaged(Damage::Stray, 0)),
-            },
+            HexTurn::Done => return Made::end(Ending::Clean),
+            HexTurn::Stray => return Made::end(Ending::Damaged(Damage::Stray, 0)),
         }
     }
 }
@@ -65,7 +54,7 @@ fn next_pair<S: Source>(below: &mut S) -> Made
 impl Kind for AsciiHex {
     const MOST: usize = 1;
 
-    ghost most = { 1 };
+    ghost MOST = { 1 };
 
     ghost State = { HexState };
 
@@ -79,10 +68,11 @@ impl Kind for AsciiHex {
 
     fn step<S: Source>(&mut self, below: &mut S) -> Option<Ending> {
         let made = next_pair(below);
-        self.ready = made.byte;
+        self.ready = made.ready;
         made.ended
     }
 
+    // The last three are those of `Eexec` too: a line each, and a trait to share them would have more.
     fn first(&self) -> Option<u8> {
         self.ready
     }
@@ -92,13 +82,6 @@ impl Kind for AsciiHex {
     }
 
     fn count(&self) -> usize {
-        match self.ready {
-            None => 0,
-            Some(_) => 1,
-        }
-    }
-
-    fn most_held() -> usize {
-        Self::MOST
+        usize::from(self.ready.is_some())
     }
 }

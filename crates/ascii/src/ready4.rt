@@ -1,68 +1,57 @@
-ghost use Rattle.std.specs.Prelude.{◌≡◌, length, Some};
+ghost use Rattle.std.specs.Prelude.{◌≡◌, ◌-◌, ◌<◌, [], length, take};
 ghost use Rattle.source.specs.Model.{tail};
 ghost use Rattle.decoding.specs.Step.{head_of};
-ghost use Rattle.ascii.specs.Ready4.{listed};
+ghost use Rattle.ascii.specs.Ready4.{bytes4, listed};
 
-use source::Ending;
-
-// Up to four bytes that are ready to be handed up: the bytes of a number, the highest first, of which so many are missing
-// at the end. Where four or more are missing, none is ready.
-#[derive(Clone, Copy)]
+// Up to four bytes that are ready to be handed up: those from a place on, and none where it is at the end. It is an array
+// with a place because a filter's memory is fixed, and because a kind is `Copy`, which an array's own iterator is not.
+#[derive(Clone, Copy, Debug, PartialEq, Eq)]
 pub struct Ready4 {
-    pub number: u32,
-    pub missing: u8,
+    bytes: [u8; 4],
+    place: u8,
 }
 
-// What a step made that hands up four bytes at most: the bytes, and the ending if it ended.
-#[derive(Clone, Copy)]
-pub struct Made4 {
-    pub ready: Ready4,
-    pub ended: Option<Ending>,
-}
+// None is ready; a derived one would hold four zeros.
+impl Default for Ready4 {
+    ghost is_default = { λ ready. listed ready ≡ [] };
 
-impl Made4 {
-    // An ending and no byte.
-    pub fn end(ending: Ending) -> Made4
-        ensures { result ≡ record { ready = record { number = 0; missing = 4 }; ended = Some ending } }
-    {
-        Made4 {
-            ready: Ready4 {
-                number: 0,
-                missing: 4,
-            },
-            ended: Some(ending),
+    fn default() -> Ready4 {
+        Ready4 {
+            bytes: [0; 4],
+            place: 4,
         }
     }
 }
 
 impl Ready4 {
+    // The bytes of a number, the highest first, without so many of the last.
+    pub fn of_number(number: u32, missing: u8) -> Ready4
+        requires { missing < 4 }
+        ensures { listed result ≡ take (4 - missing) (bytes4 number) }
+    {
+        let number = number >> (8 * missing);
+        Ready4 {
+            bytes: number.to_be_bytes(),
+            place: missing,
+        }
+    }
+
     pub fn first(&self) -> Option<u8>
         ensures { result ≡ head_of (listed self.now) }
     {
-        if self.missing < 4 {
-            Some((self.number / 16777216) as u8)
-        } else {
-            None
-        }
+        self.bytes.get(usize::from(self.place)).copied()
     }
 
     // Drops the first, if there is one.
     pub fn pop(&mut self)
         ensures { listed self.new ≡ tail (listed self.old) }
     {
-        if self.missing < 4 {
-            self.number = self.number % 16777216 * 256;
-            self.missing += 1;
-        }
+        self.place = self.place.saturating_add(1);
     }
 
     pub fn count(&self) -> usize
         ensures { result ≡ length (listed self.now) }
     {
-        if self.missing < 4 {
-            4 - self.missing as usize
-        } else {
-            0
-        }
+        self.bytes.len().saturating_sub(usize::from(self.place))
     }
 }

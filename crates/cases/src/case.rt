@@ -1,25 +1,25 @@
-ghost use Rattle.std.specs.Prelude.{◌<◌, IfOk};
-
-use anyhow::anyhow;
-use source::{Damage, Ending, digit_value};
+use anyhow::Context;
+use given::{read_bytes, read_ending};
+use source::Ending;
 use std::alloc::Global;
 
 // A source, and the areas of the calls that are made on it.
 #[derive(Drop)]
 pub struct Case {
     areas: Vec<usize>,
-    repeats: bool,
+    // the area of each call behind those, if there are more
+    again: Option<usize>,
     pub ending: Ending,
     pub bytes: Vec<u8>,
 }
 
 impl Case {
-    // The size of the area of a call, calls being counted from 0: the list's, and behind the list the last one again
-    // if it repeats and a token was answered before.
+    // The size of the area of a call, calls being counted from 0: the list's, and behind the list, where a token was
+    // answered before, the one that comes again.
     pub fn area(&self, call: usize, going: bool) -> Option<usize> {
         match self.areas.get(call) {
             Some(size) => Some(*size),
-            None if self.repeats && going => self.areas.last().copied(),
+            None if going => self.again,
             None => None,
         }
     }
@@ -27,92 +27,24 @@ impl Case {
 
 // Reads `AREAS ENDING BYTES`.
 pub fn read_case(heap: Global, line: &str) -> anyhow::Result<Case> {
-    let Some((areas, rest)) = line.split_once(' ') else {
-        return Err(anyhow!("no ending"));
-    };
-    let Some((ending, bytes)) = rest.split_once(' ') else {
-        return Err(anyhow!("no bytes"));
-    };
-    let (list, repeats) = match areas.strip_suffix('*') {
-        Some(list) => (list, true),
-        None => (areas, false),
-    };
+    let (areas, rest) = line.split_once(' ').context("no ending")?;
+    let (ending, bytes) = rest.split_once(' ').context("no bytes")?;
+    let (areas, again) = read_areas(heap, areas)?;
     Ok(Case {
-        areas: read_areas(heap, list)?,
-        repeats,
+        areas,
+        again,
         ending: read_ending(ending)?,
         bytes: read_bytes(heap, bytes)?,
     })
 }
 
-// Sizes with commas between them.
-fn read_areas(heap: Global, list: &str) -> anyhow::Result<Vec<usize>> {
+// Sizes with commas between them, and a star behind them if the last one comes again.
+fn read_areas(heap: Global, text: &str) -> anyhow::Result<(Vec<usize>, Option<usize>)> {
+    let list = text.strip_suffix('*');
     let mut areas = Vec::new(heap);
-    for size in list.split(',') {
+    for size in list.unwrap_or(text).split(',') {
         areas.push(size.parse::<usize>()?)?;
     }
-    Ok(areas)
-}
-
-// `clean`, or a damage's number, a slash and its depth.
-fn read_ending(text: &str) -> anyhow::Result<Ending> {
-    if text == "clean" {
-        return Ok(Ending::Clean);
-    }
-    let Some((number, depth)) = text.split_once('/') else {
-        return Err(anyhow!("no ending"));
-    };
-    let damage = match number {
-        "21" => Damage::Stray,
-        "22" => Damage::CutShort,
-        "23" => Damage::Overflow,
-        "24" => Damage::LoneDigit,
-        _ => return Err(anyhow!("no damage")),
-    };
-    Ok(Ending::Damaged(damage, depth.parse::<u8>()?))
-}
-
-// Parts with points between them; `-` for no byte.
-fn read_bytes(heap: Global, text: &str) -> anyhow::Result<Vec<u8>> {
-    let mut bytes = Vec::new(heap);
-    if text != "-" {
-        for part in text.split('.') {
-            read_part(&mut bytes, part)?;
-        }
-    }
-    Ok(bytes)
-}
-
-// Hexadecimal digits, with `x` and a number behind them if they come more than once.
-fn read_part(bytes: &mut Vec<u8>, part: &str) -> anyhow::Result<()> {
-    let (digits, times) = match part.split_once('x') {
-        Some((digits, times)) => (digits, times.parse::<u32>()?),
-        None => (part, 1),
-    };
-    for _ in 0..times {
-        read_digits(bytes, digits)?;
-    }
-    Ok(())
-}
-
-// Two hexadecimal digits to a byte.
-fn read_digits(bytes: &mut Vec<u8>, digits: &str) -> anyhow::Result<()> {
-    for pair in digits.as_bytes().chunks(2) {
-        let [high, low] = pair else {
-            return Err(anyhow!("a lone digit"));
-        };
-        bytes.push(16 * hex_digit(*high)? + hex_digit(*low)?)?;
-    }
-    Ok(())
-}
-
-fn hex_digit(b: u8) -> anyhow::Result<u8>
-    ensures { IfOk result (λ d. d < 16) }
-{
-    let value = digit_value(b);
-    if value < 16 {
-        Ok(value)
-    } else {
-        Err(anyhow!("no hexadecimal digit"))
-    }
+    let again = list.and(areas.last().copied());
+    Ok((areas, again))
 }

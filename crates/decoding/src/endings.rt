@@ -1,22 +1,15 @@
 ghost use Rattle.std.specs.Prelude.{◌≡◌};
-ghost use Rattle.decoding.specs.Ends.{deeper, passed, above};
+ghost use Rattle.decoding.specs.Ends.{passed, above};
 
 use source::{Damage, Ending};
 
-// The depth of a damage that has passed one filter more.
-fn one_deeper(depth: u8) -> u8
-    ensures { result ≡ deeper depth }
-{
-    if depth < 255 { depth + 1 } else { 255 }
-}
-
-// How a filter ends that ends with what stands below.
+// How a filter ends that ends with what stands below: a damage is one filter deeper, 255 at most.
 pub fn ending_passed(ending: Ending) -> Ending
     ensures { result ≡ passed ending }
 {
     match ending {
         Ending::Clean => Ending::Clean,
-        Ending::Damaged(damage, depth) => Ending::Damaged(damage, one_deeper(depth)),
+        Ending::Damaged(damage, depth) => Ending::Damaged(damage, depth.saturating_add(1)),
     }
 }
 
@@ -26,6 +19,6 @@ pub fn ending_above(ending: Ending) -> Ending
 {
     match ending {
         Ending::Clean => Ending::Damaged(Damage::CutShort, 0),
-        Ending::Damaged(damage, depth) => Ending::Damaged(damage, one_deeper(depth)),
+        damaged => ending_passed(damaged),
     }
 }

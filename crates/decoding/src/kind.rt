@@ -6,11 +6,10 @@ use source::{Ending, Source};
 
 // A way to decode, in steps.
 pub trait Kind {
-    // The most bytes that a filter of this kind ever holds.
+    // The most bytes that a filter of this kind ever holds; contracts know it by the same name.
     const MOST: usize;
 
-    // the same number, for contracts
-    ghost most: { ℕ };
+    ghost MOST: { ℕ };
 
     // what its steps depend on besides the bytes compared
     ghost State: { Type 0 };
@@ -20,12 +19,6 @@ pub trait Kind {
 
     // what a step does
     ghost step_of: { StepOf State };
-
-    // that a step leaves a byte ready or an ending, and goes on behind what it took
-    ghost lawful_step: { LawfulStep State step_of };
-
-    // that it never holds more than the most
-    ghost within: { (k : Self) → length (holds k).ready + length (holds k).compared ≤ most };
 
     // Makes a step: what was ready is dropped, bytes become ready, or the filter ends, or both.
     fn step<S: Source>(&mut self, below: &mut S) -> Option<Ending>
@@ -43,7 +36,9 @@ pub trait Kind {
     fn count(&self) -> usize
         ensures { result ≡ length (holds self.now).ready + length (holds self.now).compared };
 
-    // The most, as a number of the code.
-    fn most_held() -> usize
-        ensures { result ≡ most };
+    // that a step leaves a byte ready or an ending, and goes on behind what it took
+    ghost lawful_step: { LawfulStep State step_of };
+
+    // that it never holds more than the most
+    ghost within: { (k : Self) → length (holds k).ready + length (holds k).compared ≤ MOST };
 }

@@ -1,4 +1,4 @@
-use Rattle.std.proofs.Common.{◌≡◌, ℕ, ◌<◌, ◌≤◌, true, false, ltb, List, [], ◌∷◌, None, Option, sym, ap, ◌∙◌, arith}
+use Rattle.std.proofs.Common.{◌≡◌, ℕ, ◌<◌, true, false, ltb, List, [], ◌∷◌, None, Option, ap, ◌∙◌, arith}
 use Rattle.std.proofs.lemmas.Bool.{cond-true, cond-false, lt-ltb}
 use Rattle.std.proofs.lemmas.Bool.Decides.{nat_tests}
 use Rattle.source.specs.declared.ending.Ending.{Ending}
@@ -34,8 +34,3 @@ blank_turn pending b p =
 pub value_turn : (pending : Option ℕ) (b d : ℕ) → digit_value b ≡ d → d < 16 → turn_of pending b ≡ digit_turn pending d
 value_turn pending b d p h =
     cond-true (ltb (digit_value b) 16) _ _ (lt-ltb (digit_value b) 16 (omega arith)) ∙ ap (digit_turn pending) p
-
-pub stray_turn : (pending : Option ℕ) (b d : ℕ) → d ≡ digit_value b → 16 ≤ d → false ≡ blank b → turn_of pending b ≡ Stray
-stray_turn pending b d p h q =
-    let f : ltb (digit_value b) 16 ≡ false = grind (arith, nat_tests) in
-    cond-false (ltb (digit_value b) 16) _ _ f ∙ cond-false (blank b) _ _ (sym q)

@@ -1,11 +1,9 @@
-use Rattle.std.proofs.Common.{◌≡◌, ℕ, suc, ◌/◌, ◌%◌, ◌<◌, Bool, true, false, cond, ◌&&◌, List, [], ◌∷◌, ◌++◌, length, Some, None, Option, sym, refl, ap, ◌∙◌, subst, ap₂, arith}
+use Rattle.std.proofs.Common.{◌≡◌, ℕ, suc, ◌/◌, ◌%◌, ◌<◌, Bool, true, false, cond, ◌&&◌, List, [], ◌∷◌, ◌++◌, length, Some, None, Ok, Option, Result, sym, refl, ap, ◌∙◌, subst, ap₂, arith}
 use lib.Bits.{bit_xor, xor_assoc, xor_self, xor_zero_r, xor_lt}
 use Rattle.std.proofs.lemmas.Bool.{cond-true, cond-false, lt-ltb, and_from}
 use Rattle.std.proofs.lemmas.Bool.Decides.{nat_tests}
 use Rattle.source.specs.declared.ending.Ending.{Ending}
-use Rattle.source.specs.declared.interface.Next.{Next}
-use Rattle.source.specs.declared.interface.Next.TheVariants.{Byte}
-use Rattle.std.specs.List.{flat_map}
+use Rattle.std.specs.List.{flat_map, list_all}
 use Rattle.source.specs.Bytes.{digit_value, halves, Bytes}
 use Rattle.source.specs.Hex.{paired}
 use Rattle.source.specs.Reads.{Read}
@@ -177,30 +175,38 @@ hex_plain (p ∷ plain) key rest e f h q =
 -- the first byte behind blanks, and the first four
 lead_passed :
     (lead : List ℕ) (a : ℕ) (rest : List ℕ) (e : Ending) → Blanks lead → blank a ≡ false
-    → lead_of (lead ++ a ∷ rest) e ≡ record { answer = Byte a; left = rest; peeked = false }
+    → lead_of (lead ++ a ∷ rest) e ≡ record { answer = Ok a; left = rest; peeked = false }
 lead_passed [] a rest e f p = cond-false (blank a) _ _ p
 lead_passed (b ∷ lead) a rest e f p = cond-true (blank b) _ _ f.0 ∙ lead_passed lead a rest e f.1 p
 
 -- the first step behind them
 begun :
     (lead : List ℕ) (a b c d : ℕ) (rest : List ℕ) (e : Ending) (form : Form) → Blanks lead → blank a ≡ false
-    → form_of (record { first = a; second = b; third = c; fourth = d }) ≡ form
+    → form_of (a ∷ b ∷ c ∷ d ∷ []) ≡ form
     → eexec_step eexec_start [] (lead ++ a ∷ b ∷ c ∷ d ∷ rest) e
-    ≡ behind_of (still form) form (key_behind form (record { first = a; second = b; third = c; fourth = d }) 55665) rest e
+    ≡ behind_of (still form) form (key_behind form (a ∷ b ∷ c ∷ d ∷ []) 55665) rest e
 begun lead a b c d rest e form f p q =
-    ap (λ (r : Read Next). begin_by eexec_start (head_by r.answer r e).answer (head_by r.answer r e) e) (lead_passed lead a (b ∷ c ∷ d ∷ rest) e f p)
-    ∙ ap (λ form. behind_of (still form) form (key_behind form (record { first = a; second = b; third = c; fourth = d }) 55665) rest e) q
+    ap (λ (r : Read (Result ℕ Ending)). begin_by eexec_start (head_by r.answer r e).answer (head_by r.answer r e) e) (lead_passed lead a (b ∷ c ∷ d ∷ rest) e f p)
+    ∙ ap (λ form. behind_of (still form) form (key_behind form (a ∷ b ∷ c ∷ d ∷ []) 55665) rest e) q
 
 -- the key behind four plain bytes
 abbrev key_four : ℕ → ℕ → ℕ → ℕ → ℕ
 key_four a b c d = key_after (key_after (key_after (key_after 55665 a) b) c) d
+
+-- four bytes of digits
+four_digits : (a b c d : ℕ) → list_all hexadecimal (a ∷ b ∷ c ∷ d ∷ []) ≡ (hexadecimal a && (hexadecimal b && (hexadecimal c && hexadecimal d)))
+four_digits a b c d = ap (λ t. hexadecimal a && (hexadecimal b && (hexadecimal c && t))) (by (hexadecimal d))
+  where
+    by : (t : Bool) → (t && true) ≡ t
+    by true = refl
+    by false = refl
 
 binary_begun :
     (a b c d : ℕ) (rest : List ℕ) (e : Ending) → blank a ≡ false → (hexadecimal a && (hexadecimal b && (hexadecimal c && hexadecimal d))) ≡ false
     → decode eexec_step eexec_start [] (a ∷ b ∷ c ∷ d ∷ rest) e ≡ decode eexec_step (record { form = Some Binary; key = key_four a b c d }) [] rest e
 binary_begun a b c d rest e p q =
     decoded_as eexec_start (record { form = Some Binary; key = key_four a b c d }) (a ∷ b ∷ c ∷ d ∷ rest) rest e
-    (begun [] a b c d rest e Binary tt p (cond-false (hexadecimal a && (hexadecimal b && (hexadecimal c && hexadecimal d))) _ _ q))
+    (begun [] a b c d rest e Binary tt p (cond-false (list_all hexadecimal (a ∷ b ∷ c ∷ d ∷ [])) _ _ (four_digits a b c d ∙ q)))
 
 -- a list of four
 of_four : (P : List ℕ → Type 0) → ((s t u v : ℕ) → P (s ∷ t ∷ u ∷ v ∷ [])) → (salt : List ℕ) → length salt ≡ 4 → P salt
@@ -249,10 +255,11 @@ dropped n key rest e c vs z = ap (λ (r : Read CipherByte). drop_by Hex key r.an
 -- four digits begin the hexadecimal form
 hex_form :
     (a b c d : ℕ) → digit_value a < 16 → digit_value b < 16 → digit_value c < 16 → digit_value d < 16
-    → form_of (record { first = a; second = b; third = c; fourth = d }) ≡ Hex
+    → form_of (a ∷ b ∷ c ∷ d ∷ []) ≡ Hex
 hex_form a b c d p q r s =
-    cond-true (hexadecimal a && (hexadecimal b && (hexadecimal c && hexadecimal d))) _ _
-    (and_from (hexadecimal a) _ (lt-ltb (digit_value a) 16 p)
+    cond-true (list_all hexadecimal (a ∷ b ∷ c ∷ d ∷ [])) _ _
+    (four_digits a b c d
+    ∙ and_from (hexadecimal a) _ (lt-ltb (digit_value a) 16 p)
     (and_from (hexadecimal b) _ (lt-ltb (digit_value b) 16 q)
     (and_from (hexadecimal c) (hexadecimal d) (lt-ltb (digit_value c) 16 r) (lt-ltb (digit_value d) 16 s))))
 

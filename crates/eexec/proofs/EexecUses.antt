@@ -1,19 +1,17 @@
-use Rattle.std.proofs.Common.{◌≡◌, ℕ, zero, suc, Bool, true, false, cond, List, [], ◌∷◌, Some, Ok, Err, Result, sym, refl, ap, ◌∙◌, ap₂}
+use Rattle.std.proofs.Common.{◌≡◌, ℕ, zero, suc, Bool, true, false, cond, List, [], ◌∷◌, Some, None, Ok, Err, Result, sym, refl, ap, ◌∙◌}
+use Rattle.std.specs.List.{list_all}
 use Rattle.source.specs.declared.ending.Ending.{Ending}
-use Rattle.source.specs.declared.interface.Next.{Next}
-use Rattle.source.specs.declared.interface.Next.TheVariants.{Byte, End}
 use Rattle.source.specs.Model.{Model, first}
 use Rattle.source.specs.Laws.{Lawful}
 use Rattle.source.specs.Reads.{Read, Reads}
 use Rattle.source.proofs.Walk.{Walk, walk_start, walk_took, walk_stop_ended}
 use Rattle.source.proofs.Calls.{Steady, steady_here, steady_next, steady_then, reads_then, reads_as, reads_took, reads_ended, walk_on}
 use Rattle.eexec.specs.declared.cipherbytes.Form.{Form}
-use Rattle.eexec.specs.declared.eexec.Head.{Head}
-use Rattle.eexec.specs.Cipher.{key_after}
+use Rattle.eexec.specs.declared.cipherbytes.Form.TheVariants.{Hex, Binary}
+use Rattle.eexec.specs.Cipher.{key_after, keys_after}
 use Rattle.eexec.specs.CipherBytes.{CipherByte, Whole, Missing, Broken, blank, cipher_read_of}
-use Rattle.decoding.specs.Ends.{above}
 use Rattle.decoding.specs.Step.{Own}
-use Rattle.eexec.specs.Eexec.{EexecState, lead_of, cut, four_of, head_by, head_of, form_of, key_behind, still, plain_read_of, drop_by, behind_of, begin_by, begin_of}
+use Rattle.eexec.specs.Eexec.{EexecState, hexadecimal, digits_paired, hex_bytes_of, lead_of, cut, four_of, head_by, head_of, form_of, key_behind, still, plain_read_of, drop_by, behind_of, begin_by, begin_of}
 use Rattle.eexec.proofs.CipherBytesUses.{steady_cipher}
 
 pub steady_lead : (rest : List ℕ) (e : Ending) → Steady rest (lead_of rest e).left (lead_of rest e).peeked
@@ -22,71 +20,65 @@ steady_lead (b ∷ bs) e = at (steady_lead bs e) (blank b)
   where
     at :
         Steady bs (lead_of bs e).left (lead_of bs e).peeked → (t : Bool)
-        → Steady (b ∷ bs) (cond t (lead_of bs e) (record { answer = Byte b; left = bs; peeked = false })).left (cond t (lead_of bs e) (record { answer = Byte b; left = bs; peeked = false })).peeked
+        → Steady (b ∷ bs) (cond t (lead_of bs e) (record { answer = Ok b; left = bs; peeked = false })).left (cond t (lead_of bs e) (record { answer = Ok b; left = bs; peeked = false })).peeked
     at q true = steady_then (steady_next b bs) q
     at q false = steady_next b bs
 
 -- a turn of the loop over blanks: x was held at its start, and x' after a take
 module _
     {H : Type 0} (m : Model H) (l : Lawful H m) (h x x' : H)
-    (k : Walk m h x (λ r. lead_of r (m.ending h)) (lead_of (m.rest h) (m.ending h))) (t : x' ≡ m.taken x) (b : ℕ) (p : Byte b ≡ first (m.rest x) (m.ending x)) where
+    (k : Walk m h x (λ r. lead_of r (m.ending h)) (lead_of (m.rest h) (m.ending h))) (t : x' ≡ m.taken x) (b : ℕ) (p : Ok b ≡ first (m.rest x) (m.ending x)) where
   pub lead_on : true ≡ blank b → Walk m h x' (λ r. lead_of r (m.ending h)) (lead_of (m.rest h) (m.ending h))
   lead_on q =
       walk_took m l h x _ _ x' b (λ r. lead_of r (m.ending h)) k p t
-      (sym (ap (λ t. cond t (lead_of (m.rest x') (m.ending h)) (record { answer = Byte b; left = m.rest x'; peeked = false })) q))
+      (sym (ap (λ t. cond t (lead_of (m.rest x') (m.ending h)) (record { answer = Ok b; left = m.rest x'; peeked = false })) q))
 
-  pub lead_stop : false ≡ blank b → Reads m lead_of h (Byte b) x'
+  pub lead_stop : false ≡ blank b → Reads m lead_of h (Ok b) x'
   lead_stop q =
-      reads_took m l lead_of h x x' _ k t (Byte b) (record { answer = Byte b; left = m.rest x'; peeked = false }) refl b p
-      (ap (λ t. cond t (lead_of (m.rest x') (m.ending h)) (record { answer = Byte b; left = m.rest x'; peeked = false })) q) refl refl
+      reads_took m l lead_of h x x' _ k t (Ok b) (record { answer = Ok b; left = m.rest x'; peeked = false }) refl b p
+      (ap (λ t. cond t (lead_of (m.rest x') (m.ending h)) (record { answer = Ok b; left = m.rest x'; peeked = false })) q) refl refl
 
 -- the first four bytes: x is what is held behind the first
 module _ {H : Type 0} (m : Model H) (l : Lawful H m) (h x : H) where
-  -- none is there behind the blanks
-  pub head_none : (z : Ending) → Reads m lead_of h (End z) x → Reads m head_of h (Err z) x
-  head_none z y =
-      reads_as m l lead_of h (End z) x head_of (Err z) _ y
-      (ap (λ a. head_by a (lead_of (m.rest h) (m.ending h)) (m.ending h)) y.answer) refl refl refl
-
   -- it ends behind those that `go` has
   head_cut :
-      (x x' : H) (go : List ℕ → Read (Result Head Ending)) (z : Ending) → Walk m h x go (head_of (m.rest h) (m.ending h)) → x' ≡ m.taken x
-      → End z ≡ first (m.rest x) (m.ending x) → cut (m.ending h) ≡ go [] → Reads m head_of h (Err z) x'
+      (x x' : H) (go : List ℕ → Read (Result (List ℕ) Ending)) (z : Ending) → Walk m h x go (head_of (m.rest h) (m.ending h)) → x' ≡ m.taken x
+      → Err z ≡ first (m.rest x) (m.ending x) → cut (m.ending h) ≡ go [] → Reads m head_of h (Err z) x'
   head_cut x x' go z k t p e =
       reads_ended m l head_of h x x' go k t (Err z) (cut (m.ending h))
       (ap Err (walk_stop_ended m l h x go _ x' z k p t).2) z p e refl refl
 
-  module _ (a : ℕ) (y : Reads m lead_of h (Byte a) x) where
+  module _ (a : ℕ) (y : Reads m lead_of h (Ok a) x) where
     one : Walk m h x (λ r. four_of (a ∷ r) (m.ending h)) (head_of (m.rest h) (m.ending h))
     one =
-        walk_on m l lead_of h h (Byte a) x (λ r. head_of r (m.ending h)) _ steady_lead (walk_start m l h (λ r. head_of r (m.ending h))) y
+        walk_on m l lead_of h h (Ok a) x (λ r. head_of r (m.ending h)) _ steady_lead (walk_start m l h (λ r. head_of r (m.ending h))) y
         (λ r. four_of (a ∷ r) (m.ending h))
         (sym (ap (λ a. head_by a (lead_of (m.rest h) (m.ending h)) (m.ending h)) y.answer))
 
     -- only one
-    pub head_one : (x' : H) (z : Ending) → x' ≡ m.taken x → End z ≡ first (m.rest x) (m.ending x) → Reads m head_of h (Err z) x'
+    pub head_one : (x' : H) (z : Ending) → x' ≡ m.taken x → Err z ≡ first (m.rest x) (m.ending x) → Reads m head_of h (Err z) x'
     head_one x' z t p = head_cut x x' (λ r. four_of (a ∷ r) (m.ending h)) z one t p refl
 
-    module _ (x₂ : H) (b : ℕ) (t₂ : x₂ ≡ m.taken x) (p₂ : Byte b ≡ first (m.rest x) (m.ending x)) where
+    module _ (x₂ : H) (b : ℕ) (t₂ : x₂ ≡ m.taken x) (p₂ : Ok b ≡ first (m.rest x) (m.ending x)) where
       two : Walk m h x₂ (λ r. four_of (a ∷ b ∷ r) (m.ending h)) (head_of (m.rest h) (m.ending h))
       two = walk_took m l h x (λ r. four_of (a ∷ r) (m.ending h)) _ x₂ b (λ r. four_of (a ∷ b ∷ r) (m.ending h)) one p₂ t₂ refl
 
       -- only two
-      pub head_two : (x' : H) (z : Ending) → x' ≡ m.taken x₂ → End z ≡ first (m.rest x₂) (m.ending x₂) → Reads m head_of h (Err z) x'
+      pub head_two : (x' : H) (z : Ending) → x' ≡ m.taken x₂ → Err z ≡ first (m.rest x₂) (m.ending x₂) → Reads m head_of h (Err z) x'
       head_two x' z t p = head_cut x₂ x' (λ r. four_of (a ∷ b ∷ r) (m.ending h)) z two t p refl
 
-      module _ (x₃ : H) (c : ℕ) (t₃ : x₃ ≡ m.taken x₂) (p₃ : Byte c ≡ first (m.rest x₂) (m.ending x₂)) where
+      module _ (x₃ : H) (c : ℕ) (t₃ : x₃ ≡ m.taken x₂) (p₃ : Ok c ≡ first (m.rest x₂) (m.ending x₂)) where
         three : Walk m h x₃ (λ r. four_of (a ∷ b ∷ c ∷ r) (m.ending h)) (head_of (m.rest h) (m.ending h))
         three = walk_took m l h x₂ (λ r. four_of (a ∷ b ∷ r) (m.ending h)) _ x₃ c (λ r. four_of (a ∷ b ∷ c ∷ r) (m.ending h)) two p₃ t₃ refl
 
         -- only three
-        pub head_three : (x' : H) (z : Ending) → x' ≡ m.taken x₃ → End z ≡ first (m.rest x₃) (m.ending x₃) → Reads m head_of h (Err z) x'
+        pub head_three : (x' : H) (z : Ending) → x' ≡ m.taken x₃ → Err z ≡ first (m.rest x₃) (m.ending x₃) → Reads m head_of h (Err z) x'
         head_three x' z t p = head_cut x₃ x' (λ r. four_of (a ∷ b ∷ c ∷ r) (m.ending h)) z three t p refl
 
         -- all four
         pub head_four :
-            (x' : H) (d : ℕ) → x' ≡ m.taken x₃ → Byte d ≡ first (m.rest x₃) (m.ending x₃)
-            → Reads m head_of h (Ok (record { first = a; second = b; third = c; fourth = d })) x'
+            (x' : H) (d : ℕ) → x' ≡ m.taken x₃ → Ok d ≡ first (m.rest x₃) (m.ending x₃)
+            → Reads m head_of h (Ok (a ∷ b ∷ c ∷ d ∷ [])) x'
         head_four x' d t p =
             reads_took m l head_of h x₃ x' (λ r. four_of (a ∷ b ∷ c ∷ r) (m.ending h)) three t _ _ refl d p refl refl refl
 
@@ -102,9 +94,9 @@ steady_four a (b ∷ c ∷ d ∷ bs) e = steady_then (steady_next b (c ∷ d ∷
 steady_head : (rest : List ℕ) (e : Ending) → Steady rest (head_of rest e).left (head_of rest e).peeked
 steady_head rest e = at (lead_of rest e) (steady_lead rest e) (lead_of rest e).answer
   where
-    at : (r : Read Next) → Steady rest r.left r.peeked → (x : Next) → Steady rest (head_by x r e).left (head_by x r e).peeked
-    at r q (End z) = q
-    at r q (Byte b) = steady_then q (steady_four b r.left e)
+    at : (r : Read (Result ℕ Ending)) → Steady rest r.left r.peeked → (x : Result ℕ Ending) → Steady rest (head_by x r e).left (head_by x r e).peeked
+    at r q (Err z) = q
+    at r q (Ok b) = steady_then q (steady_four b r.left e)
 
 steady_behind : (n : ℕ) (form : Form) (key : ℕ) (rest : List ℕ) (e : Ending) → Steady rest (behind_of n form key rest e).left (behind_of n form key rest e).peeked
 steady_behind zero form key rest e = steady_plain form key rest e
@@ -119,22 +111,39 @@ steady_behind (suc n) form key rest e =
     at r s (Missing z) on f = s
     at r s (Broken z) on f = s
 
+-- what the first four bytes say, by whether they are cipher bytes in the hexadecimal form
+hex_head : (head bytes : List ℕ) → Some bytes ≡ hex_bytes_of head → (Hex ≡ form_of head) × (bytes ≡ digits_paired head)
+hex_head head bytes p = by (list_all hexadecimal head) p
+  where
+    by : (t : Bool) → Some bytes ≡ cond t (Some (digits_paired head)) None → (Hex ≡ cond t Hex Binary) × (bytes ≡ digits_paired head)
+    by true p = (refl, cc)
+    by false p = cc
+
+binary_head : (head : List ℕ) → None ≡ hex_bytes_of head → Binary ≡ form_of head
+binary_head head p = by (list_all hexadecimal head) p
+  where
+    by : (t : Bool) → None ≡ cond t (Some (digits_paired head)) None → Binary ≡ cond t Hex Binary
+    by true p = cc
+    by false p = refl
+
 -- the first step
 module _ {H : Type 0} (m : Model H) (l : Lawful H m) (h x : H) (k : EexecState) where
-  pub begin_cut :
-      (e z : Ending) → Reads m head_of h (Err e) x → z ≡ above e
-      → Reads m (begin_of k) h (record { ready = []; compared = []; kind = k; ended = Some z }) x
-  begin_cut e z y p =
-      reads_as m l head_of h (Err e) x (begin_of k) _ _ y
-      (ap (λ a. begin_by k a (head_of (m.rest h) (m.ending h)) (m.ending h)) y.answer)
-      (ap (λ z. let o : Own EexecState = record { ready = []; compared = []; kind = k; ended = Some z } in o) p) refl refl
-
-  pub begin_whole :
-      (head : Head) (form : Form) (n key : ℕ) (r : Own EexecState) (x' : H) → Reads m head_of h (Ok head) x → form ≡ form_of head → n ≡ still form → key ≡ key_behind form head k.key
-      → Reads m (behind_of n form key) x r x' → Reads m (begin_of k) h r x'
-  begin_whole head form n key r x' y p q t z =
-      let w = reads_then m l head_of h (Ok head) x (behind_of n form key) r x' (steady_head (m.rest h) (m.ending h)) (steady_behind n form key) y z in
-      reads_as m l _ h r x' (begin_of k) r (behind_of n form key (head_of (m.rest h) (m.ending h)).left (m.ending h)) w
-      (ap₂ (λ n key. behind_of n form key (head_of (m.rest h) (m.ending h)).left (m.ending h)) q t
+  begin_whole :
+      (head : List ℕ) (form : Form) (key : ℕ) (r : Own EexecState) (x' : H) → Reads m head_of h (Ok head) x → form ≡ form_of head → key ≡ key_behind form head k.key
+      → Reads m (behind_of (still form) form key) x r x' → Reads m (begin_of k) h r x'
+  begin_whole head form key r x' y p t z =
+      let w = reads_then m l head_of h (Ok head) x (behind_of (still form) form key) r x' (steady_head (m.rest h) (m.ending h)) (steady_behind (still form) form key) y z in
+      reads_as m l _ h r x' (begin_of k) r (behind_of (still form) form key (head_of (m.rest h) (m.ending h)).left (m.ending h)) w
+      (ap (λ key. behind_of (still form) form key (head_of (m.rest h) (m.ending h)).left (m.ending h)) t
       ∙ (ap (λ f. behind_of (still f) f (key_behind f head k.key) (head_of (m.rest h) (m.ending h)).left (m.ending h)) p
       ∙ ap (λ a. begin_by k a (head_of (m.rest h) (m.ending h)) (m.ending h)) y.answer)) w.answer refl refl
+
+  -- in either form
+  module _ (head : List ℕ) (key : ℕ) (r : Own EexecState) (x' : H) (y : Reads m head_of h (Ok head) x) where
+    pub begin_hex : (bytes : List ℕ) → Some bytes ≡ hex_bytes_of head → key ≡ keys_after k.key bytes → Reads m (behind_of 2 Hex key) x r x' → Reads m (begin_of k) h r x'
+    begin_hex bytes p q z =
+        let e = hex_head head bytes p in
+        begin_whole head Hex key r x' y e.0 (q ∙ ap (keys_after k.key) e.1) z
+
+    pub begin_binary : None ≡ hex_bytes_of head → key ≡ keys_after k.key head → Reads m (behind_of 0 Binary key) x r x' → Reads m (begin_of k) h r x'
+    begin_binary p q z = begin_whole head Binary key r x' y (binary_head head p) q z

@@ -1,10 +1,8 @@
-use Rattle.std.proofs.Common.{◌≡◌, ℕ, zero, suc, ◌-◌, ◌<◌, ◌≤◌, Bool, true, false, cond, ltb, List, [], ◌∷◌, Some, None, Option, sym, refl, ap, ◌∙◌, ap₂, arith, ltb-false}
-use Rattle.std.specs.Option.{option_to_list}
+use Rattle.std.proofs.Common.{◌≡◌, ℕ, zero, suc, ◌-◌, ◌<◌, Bool, true, false, cond, ltb, List, [], ◌∷◌, Some, None, Ok, Err, Option, sym, refl, ap, ◌∙◌, ap₂, arith}
 use Rattle.source.specs.declared.ending.Damage.TheVariants as damage
 use Rattle.source.specs.declared.ending.Ending.{Ending}
 use Rattle.source.specs.declared.ending.Ending.TheVariants.{Damaged}
-use Rattle.source.specs.declared.interface.Next.TheVariants.{Byte}
-use Rattle.source.specs.Bytes.{digit_value}
+use Rattle.source.specs.Bytes.{digit_value, digit_of}
 use Rattle.source.specs.Hex.{paired}
 use Rattle.source.specs.Model.{Model, first}
 use Rattle.source.specs.Laws.{Lawful}
@@ -12,27 +10,29 @@ use Rattle.source.specs.Reads.{Read, Reads}
 use Rattle.source.proofs.Walk.{Walk, walk_took}
 use Rattle.source.proofs.Calls.{reads_took}
 use Rattle.decoding.specs.Step.{Own}
-use Rattle.eexec.specs.declared.cipherbytes.Form.{Form}
 use Rattle.eexec.specs.declared.cipherbytes.Form.TheVariants.{Hex}
 use Rattle.eexec.specs.Cipher.{plain_of, key_after}
-use Rattle.eexec.specs.CipherBytes.{CipherByte, Broken, CipherTurn, Wait, Put, Stray, blank, hex_value, digit_turn, turn_of, cipher_turn, hex_cipher}
-use Rattle.eexec.specs.Eexec.{EexecState, known, with_answer, plain_by, drop_by, behind_of}
-use Rattle.eexec.proofs.CipherBytesUses.{blank_turn, value_turn, stray_turn}
+use Rattle.eexec.specs.CipherBytes.{CipherByte, Broken, CipherTurn, Wait, Put, Stray, blank, digit_turn, turn_of, cipher_turn, hex_cipher}
+use Rattle.eexec.specs.Eexec.{EexecState, answered, known, with_answer, plain_by, drop_by, behind_of}
 
--- what the value of a digit says
-digit_has_value : (b d : ℕ) → d ≡ hex_value b → d < 16 → d ≡ digit_value b
-digit_has_value b d q h = by (ltb (digit_value b) 16) q
+-- what a byte does that is a digit, or none
+digit_turns : (pending : Option ℕ) (b d : ℕ) → Some d ≡ digit_of 16 b → turn_of pending b ≡ digit_turn pending d
+digit_turns pending b d q = by (ltb (digit_value b) 16) q
   where
-    by : (t : Bool) → d ≡ cond t (digit_value b) 16 → d ≡ digit_value b
-    by true q = q
-    by false q = let no_way : ⊥ = omega arith in absurd no_way
+    by :
+        (t : Bool) → Some d ≡ cond t (Some (digit_value b)) None
+        → cond t (digit_turn pending (digit_value b)) (cond (blank b) (Wait pending) Stray) ≡ digit_turn pending d
+    by true q = let e : d ≡ digit_value b = cc in ap (digit_turn pending) (sym e)
+    by false q = cc
 
-no_digit : (b d : ℕ) → d ≡ hex_value b → 16 ≤ d → 16 ≤ digit_value b
-no_digit b d q h = by (ltb (digit_value b) 16) refl q
+other_turns : (pending : Option ℕ) (b : ℕ) (t : Bool) → None ≡ digit_of 16 b → t ≡ blank b → turn_of pending b ≡ cond t (Wait pending) Stray
+other_turns pending b t q r = by (ltb (digit_value b) 16) q
   where
-    by : (t : Bool) → ltb (digit_value b) 16 ≡ t → d ≡ cond t (digit_value b) 16 → 16 ≤ digit_value b
-    by true e q = let i : d ≡ digit_value b = q in omega (arith, i)
-    by false e q = ltb-false (digit_value b) 16 e
+    by :
+        (u : Bool) → None ≡ cond u (Some (digit_value b)) None
+        → cond u (digit_turn pending (digit_value b)) (cond (blank b) (Wait pending) Stray) ≡ cond t (Wait pending) Stray
+    by true q = cc
+    by false q = ap (λ t. cond t (Wait pending) Stray) (sym r)
 
 -- n plain bytes are dropped and then comes the next one, where r is the reading of a cipher byte
 abbrev hex_by : ℕ → ℕ → Read CipherByte → Ending → Read (Own EexecState)
@@ -53,15 +53,11 @@ hex_broken : (n key : ℕ) (rest : List ℕ) (z e : Ending)
 hex_broken zero key rest z e = refl
 hex_broken (suc n) key rest z e = refl
 
--- what is held, by the form
-abbrev held : Option Form → ℕ → List ℕ → Option Ending → Own EexecState
-held form key ready o = record { ready = ready; compared = []; kind = record { form = form; key = key }; ended = o }
-
 -- a turn of the loop: x was held at its start, and x' after a take
 module _
     {H : Type 0} (m : Model H) (l : Lawful H m) (h x x' : H) (n : ℕ) (pending : Option ℕ) (all first_key key : ℕ)
     (k : Walk m h x (λ r. hex_on n pending key r (m.ending h)) (behind_of all Hex first_key (m.rest h) (m.ending h))) (t : x' ≡ m.taken x) where
-  module _ (b : ℕ) (p : Byte b ≡ first (m.rest x) (m.ending x)) where
+  module _ (b : ℕ) (p : Ok b ≡ first (m.rest x) (m.ending x)) where
     turn : (u : CipherTurn) → turn_of pending b ≡ u
         → hex_on n pending key (b ∷ m.rest x') (m.ending h) ≡ hex_by n key (cipher_turn u (m.rest x') (λ v. hex_cipher v (m.rest x') (m.ending h))) (m.ending h)
     turn u q = ap (λ u. hex_by n key (cipher_turn u (m.rest x') (λ v. hex_cipher v (m.rest x') (m.ending h))) (m.ending h)) q
@@ -71,27 +67,24 @@ module _
     wait half q = walk_took m l h x _ _ x' b (λ r. hex_on n half key r (m.ending h)) k p t (turn (Wait half) q)
 
     -- a blank
-    pub hex_blank : true ≡ blank b → Walk m h x' (λ r. hex_on n pending key r (m.ending h)) (behind_of all Hex first_key (m.rest h) (m.ending h))
-    hex_blank q = wait pending (blank_turn pending b (sym q))
+    pub hex_blank : None ≡ digit_of 16 b → true ≡ blank b → Walk m h x' (λ r. hex_on n pending key r (m.ending h)) (behind_of all Hex first_key (m.rest h) (m.ending h))
+    hex_blank q r = wait pending (other_turns pending b true q r)
 
-    pub hex_stray :
-        (form : Option Form) (ready : Option ℕ) (d : ℕ) → form ≡ Some Hex → ready ≡ None → d ≡ hex_value b → 16 ≤ d → false ≡ blank b
-        → Reads m (behind_of all Hex first_key) h (held form key (option_to_list ready) (Some (Damaged damage.Stray 0))) x'
-    hex_stray form ready d f o q i r =
-        reads_took m l (behind_of all Hex first_key) h x x' _ k t (held form key (option_to_list ready) (Some (Damaged damage.Stray 0)))
-        (record { answer = known Hex key [] (Some (Damaged damage.Stray 0)); left = m.rest x'; peeked = false })
-        (ap₂ (λ f ready. held f key (option_to_list ready) (Some (Damaged damage.Stray 0))) f o) b p
-        (hex_broken n key (m.rest x') (Damaged damage.Stray 0) (m.ending h) ∙ sym (turn Stray (stray_turn pending b (digit_value b) refl (no_digit b d q i) r))) refl refl
+    pub hex_stray : None ≡ digit_of 16 b → false ≡ blank b → Reads m (behind_of all Hex first_key) h (answered Hex key (Err (Damaged damage.Stray 0))) x'
+    hex_stray q r =
+        reads_took m l (behind_of all Hex first_key) h x x' _ k t (answered Hex key (Err (Damaged damage.Stray 0)))
+        (record { answer = known Hex key [] (Some (Damaged damage.Stray 0)); left = m.rest x'; peeked = false }) refl b p
+        (hex_broken n key (m.rest x') (Damaged damage.Stray 0) (m.ending h) ∙ sym (turn Stray (other_turns pending b false q r))) refl refl
 
-    module _ (d : ℕ) (q : d ≡ hex_value b) (small : d < 16) where
+    module _ (d : ℕ) (q : Some d ≡ digit_of 16 b) where
       -- a first digit
       pub hex_first : pending ≡ None → Walk m h x' (λ r. hex_on n (Some d) key r (m.ending h)) (behind_of all Hex first_key (m.rest h) (m.ending h))
-      hex_first f = wait (Some d) (value_turn pending b d (sym (digit_has_value b d q small)) small ∙ ap (λ v. digit_turn v d) f)
+      hex_first f = wait (Some d) (digit_turns pending b d q ∙ ap (λ v. digit_turn v d) f)
 
       -- a second one
       module _ (high c key' : ℕ) (f : pending ≡ Some high) (is : c ≡ paired high d) (next : key' ≡ key_after key c) where
         put : turn_of pending b ≡ Put c
-        put = value_turn pending b d (sym (digit_has_value b d q small)) small ∙ (ap (λ v. digit_turn v d) f ∙ ap Put (sym is))
+        put = digit_turns pending b d q ∙ (ap (λ v. digit_turn v d) f ∙ ap Put (sym is))
 
         -- whose plain byte is dropped
         pub hex_drop : 0 < n → Walk m h x' (λ r. hex_on (n - 1) None key' r (m.ending h)) (behind_of all Hex first_key (m.rest h) (m.ending h))
@@ -104,10 +97,9 @@ module _
             ∙ ap (λ y. hex_on (n - 1) None y (m.rest x') (m.ending h)) (sym next))))
 
         -- whose plain byte is handed up
-        pub hex_kept :
-            (form : Option Form) (y : ℕ) → form ≡ Some Hex → y ≡ plain_of key c → n ≡ 0 → Reads m (behind_of all Hex first_key) h (held form key' (y ∷ []) None) x'
-        hex_kept form y g z i =
-            reads_took m l (behind_of all Hex first_key) h x x' _ k t (held form key' (y ∷ []) None)
+        pub hex_kept : (y : ℕ) → y ≡ plain_of key c → n ≡ 0 → Reads m (behind_of all Hex first_key) h (answered Hex key' (Ok y)) x'
+        hex_kept y z i =
+            reads_took m l (behind_of all Hex first_key) h x x' _ k t (answered Hex key' (Ok y))
             (record { answer = known Hex (key_after key c) (plain_of key c ∷ []) None; left = m.rest x'; peeked = false })
-            (ap₂ (λ f key'. held f key' (y ∷ []) None) g next ∙ ap (λ y. held (Some Hex) (key_after key c) (y ∷ []) None) z) b p
+            (ap₂ (λ key' y. answered Hex key' (Ok y)) next z) b p
             (sym (turn (Put c) put ∙ ap (λ n. hex_by n key (cipher_turn (Put c) (m.rest x') (λ v. hex_cipher v (m.rest x') (m.ending h))) (m.ending h)) i)) refl refl

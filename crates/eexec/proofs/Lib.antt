@@ -1,3 +1,5 @@
+pub mod Errors
+pub mod HeadUses
 pub mod CipherBytesUses
 pub mod HexUses
 pub mod EexecUses

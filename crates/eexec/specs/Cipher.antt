@@ -8,6 +8,11 @@ plain_of key c = bit_xor c (key / 256)
 abbrev pub key_after : ℕ → ℕ → ℕ
 key_after key c = ((c + key) * 52845 + 22719) % 65536
 
+-- the key behind some cipher bytes
+abbrev pub keys_after : ℕ → List ℕ → ℕ
+keys_after key [] = key
+keys_after key (c ∷ cs) = keys_after (key_after key c) cs
+
 -- the cipher byte of the plain byte p at a key
 abbrev pub cipher_of : ℕ → ℕ → ℕ
 cipher_of key p = bit_xor p (key / 256)

@@ -25,10 +25,6 @@ pub data CipherTurn : Type 0 where
 abbrev pub blank : ℕ → Bool
 blank b = b == 9 || (b == 10 || (b == 13 || b == 32))
 
--- the value of a hexadecimal digit; 16 for any other byte
-abbrev pub hex_value : ℕ → ℕ
-hex_value b = cond (nat_lt (digit_value b) 16) (digit_value b) 16
-
 -- a digit of the value d, where a first digit is pending or none
 abbrev pub digit_turn : Option ℕ → ℕ → CipherTurn
 digit_turn None d = Wait (Some d)

@@ -1,16 +1,14 @@
-use Rattle.std.specs.Prelude.{ℕ, zero, suc, Bool, true, false, cond, ◌&&◌, List, [], ◌∷◌, Some, None, Ok, Err, Option, Result, nat_lt}
+use Rattle.std.specs.Prelude.{ℕ, zero, suc, Bool, true, false, cond, List, [], ◌∷◌, Some, None, Ok, Err, Option, Result, nat_lt}
+use Rattle.std.specs.List.{list_all}
 use Rattle.std.specs.Option.{option_to_list}
 use Rattle.source.specs.declared.ending.Ending.{Ending}
-use Rattle.source.specs.declared.interface.Next.{Next}
-use Rattle.source.specs.declared.interface.Next.TheVariants.{Byte, End}
 use Rattle.source.specs.Bytes.{digit_value}
 use Rattle.source.specs.Hex.{paired}
 use Rattle.source.specs.Reads.{Read}
 use Rattle.eexec.specs.declared.cipherbytes.Form.{Form}
 use Rattle.eexec.specs.declared.cipherbytes.Form.TheVariants.{Hex, Binary}
 use Rattle.eexec.specs.declared.eexec.Eexec.{Eexec}
-use Rattle.eexec.specs.declared.eexec.Head.{Head}
-use Rattle.eexec.specs.Cipher.{plain_of, key_after}
+use Rattle.eexec.specs.Cipher.{plain_of, key_after, keys_after}
 use Rattle.eexec.specs.CipherBytes.{CipherByte, Whole, Missing, Broken, blank, cipher_read_of}
 use Rattle.decoding.specs.Ends.{above, passed}
 use Rattle.decoding.specs.Step.{Holds, Own, StepOf}
@@ -34,16 +32,24 @@ eexec_start = record { form = None; key = 55665 }
 abbrev pub hexadecimal : ℕ → Bool
 hexadecimal b = nat_lt (digit_value b) 16
 
--- four hexadecimal digits begin the hexadecimal form, anything else the binary one
-abbrev pub form_of : Head → Form
-form_of f =
-    cond (hexadecimal f.first && (hexadecimal f.second && (hexadecimal f.third && hexadecimal f.fourth))) Hex Binary
+-- the cipher bytes of hexadecimal digits, two to a byte
+abbrev pub digits_paired : List ℕ → List ℕ
+digits_paired [] = []
+digits_paired (a ∷ []) = []
+digits_paired (a ∷ b ∷ bs) = paired (digit_value a) (digit_value b) ∷ digits_paired bs
+
+-- the first four bytes: four hexadecimal digits begin the hexadecimal form, anything else the binary one
+abbrev pub form_of : List ℕ → Form
+form_of head = cond (list_all hexadecimal head) Hex Binary
+
+-- the cipher bytes that they are in the hexadecimal form, if that is their form
+abbrev pub hex_bytes_of : List ℕ → Option (List ℕ)
+hex_bytes_of head = cond (list_all hexadecimal head) (Some (digits_paired head)) None
 
 -- the key behind the first four bytes, which are two cipher bytes or four
-abbrev pub key_behind : Form → Head → ℕ → ℕ
-key_behind Hex f key =
-    key_after (key_after key (paired (digit_value f.first) (digit_value f.second))) (paired (digit_value f.third) (digit_value f.fourth))
-key_behind Binary f key = key_after (key_after (key_after (key_after key f.first) f.second) f.third) f.fourth
+abbrev pub key_behind : Form → List ℕ → ℕ → ℕ
+key_behind Hex head key = keys_after key (digits_paired head)
+key_behind Binary head key = keys_after key head
 
 -- how many plain bytes are still to be dropped then
 abbrev pub still : Form → ℕ
@@ -55,32 +61,40 @@ abbrev pub with_answer : {A B : Type 0} → B → Read A → Read B
 with_answer x r = record { answer = x; left = r.left; peeked = r.peeked }
 
 -- the byte behind blanks
-abbrev pub lead_of : List ℕ → Ending → Read Next
-lead_of [] e = record { answer = End e; left = []; peeked = true }
-lead_of (b ∷ bs) e = cond (blank b) (lead_of bs e) (record { answer = Byte b; left = bs; peeked = false })
+abbrev pub lead_of : List ℕ → Ending → Read (Result ℕ Ending)
+lead_of [] e = record { answer = Err e; left = []; peeked = true }
+lead_of (b ∷ bs) e = cond (blank b) (lead_of bs e) (record { answer = Ok b; left = bs; peeked = false })
 
-abbrev pub cut : Ending → Read (Result Head Ending)
+abbrev pub cut : Ending → Read (Result (List ℕ) Ending)
 cut e = record { answer = Err e; left = []; peeked = true }
 
 -- four bytes
-abbrev pub four_of : List ℕ → Ending → Read (Result Head Ending)
+abbrev pub four_of : List ℕ → Ending → Read (Result (List ℕ) Ending)
 four_of [] e = cut e
 four_of (a ∷ []) e = cut e
 four_of (a ∷ b ∷ []) e = cut e
 four_of (a ∷ b ∷ c ∷ []) e = cut e
-four_of (a ∷ b ∷ c ∷ d ∷ bs) e = record { answer = Ok (record { first = a; second = b; third = c; fourth = d }); left = bs; peeked = false }
+four_of (a ∷ b ∷ c ∷ d ∷ bs) e = record { answer = Ok (a ∷ b ∷ c ∷ d ∷ []); left = bs; peeked = false }
 
 -- four bytes behind blanks
-abbrev pub head_by : Next → Read Next → Ending → Read (Result Head Ending)
-head_by (End x) r e = with_answer (Err x) r
-head_by (Byte b) r e = four_of (b ∷ r.left) e
+abbrev pub head_by : Result ℕ Ending → Read (Result ℕ Ending) → Ending → Read (Result (List ℕ) Ending)
+head_by (Err x) r e = with_answer (Err x) r
+head_by (Ok b) r e = four_of (b ∷ r.left) e
 
-abbrev pub head_of : List ℕ → Ending → Read (Result Head Ending)
+abbrev pub head_of : List ℕ → Ending → Read (Result (List ℕ) Ending)
 head_of rest e = head_by (lead_of rest e).answer (lead_of rest e) e
 
 -- what is held where the form is known
 abbrev pub known : Form → ℕ → List ℕ → Option Ending → Own EexecState
 known form key ready o = record { ready = ready; compared = []; kind = record { form = Some form; key = key }; ended = o }
+
+-- the same by what a step answered: a plain byte, which is ready then, or how it ended
+abbrev pub answer_of : EexecState → Result ℕ Ending → Own EexecState
+answer_of k (Ok b) = record { ready = b ∷ []; compared = []; kind = k; ended = None }
+answer_of k (Err e) = record { ready = []; compared = []; kind = k; ended = Some e }
+
+abbrev pub answered : Form → ℕ → Result ℕ Ending → Own EexecState
+answered form key r = answer_of (record { form = Some form; key = key }) r
 
 -- a cipher byte is a plain byte; where it would begin, the end below is the end
 abbrev pub plain_by : Form → ℕ → CipherByte → Own EexecState
@@ -105,9 +119,9 @@ behind_of (suc n) form key rest e =
     drop_by form key (cipher_read_of form rest e).answer (cipher_read_of form rest e) (λ key'. behind_of n form key' (cipher_read_of form rest e).left e)
 
 -- the first step: the first four bytes tell the form, and four plain bytes are dropped
-abbrev pub begin_by : EexecState → Result Head Ending → Read (Result Head Ending) → Ending → Read (Own EexecState)
+abbrev pub begin_by : EexecState → Result (List ℕ) Ending → Read (Result (List ℕ) Ending) → Ending → Read (Own EexecState)
 begin_by k (Err x) r e = with_answer (record { ready = []; compared = []; kind = k; ended = Some (above x) }) r
-begin_by k (Ok f) r e = behind_of (still (form_of f)) (form_of f) (key_behind (form_of f) f k.key) r.left e
+begin_by k (Ok head) r e = behind_of (still (form_of head)) (form_of head) (key_behind (form_of head) head k.key) r.left e
 
 abbrev pub begin_of : EexecState → List ℕ → Ending → Read (Own EexecState)
 begin_of k rest e = begin_by k (head_of rest e).answer (head_of rest e) e

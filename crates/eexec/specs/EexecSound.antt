@@ -2,15 +2,12 @@ use Rattle.std.specs.Prelude.{◌≡◌, ℕ, zero, suc, ◌+◌, ◌<◌, ◌�
 use Rattle.std.proofs.Common.{sym, arith}
 use Rattle.std.specs.Option.{option_to_list}
 use Rattle.source.specs.declared.ending.Ending.{Ending}
-use Rattle.source.specs.declared.interface.Next.{Next}
-use Rattle.source.specs.declared.interface.Next.TheVariants.{Byte, End}
 use Rattle.source.specs.Gone.{Behind}
 use Rattle.source.specs.Reads.{Read}
 use Rattle.source.proofs.Going.{behind_self, behind_trans, behind_fewer}
 use Rattle.eexec.specs.declared.cipherbytes.Form.{Form}
 use Rattle.eexec.specs.declared.cipherbytes.Form.TheVariants.{Hex, Binary}
 use Rattle.eexec.specs.declared.eexec.Eexec.{Eexec}
-use Rattle.eexec.specs.declared.eexec.Head.{Head}
 use Rattle.eexec.specs.Cipher.{plain_of, key_after}
 use Rattle.eexec.specs.CipherBytes.{CipherByte, Whole, Missing, Broken, CipherTurn, Wait, Put, Stray, blank, turn_of, cipher_turn, hex_cipher, cipher_read_of}
 use Rattle.decoding.specs.Step.{Own, Sound, LawfulStep}
@@ -102,7 +99,7 @@ lead_fair : (bs : List ℕ) (e : Ending) → Fair bs (lead_of bs e)
 lead_fair [] e = fair_end _
 lead_fair (b ∷ bs) e = at (lead_fair bs e) (blank b)
   where
-    at : Fair bs (lead_of bs e) → (t : Bool) → Fair (b ∷ bs) (cond t (lead_of bs e) (record { answer = Byte b; left = bs; peeked = false }))
+    at : Fair bs (lead_of bs e) → (t : Bool) → Fair (b ∷ bs) (cond t (lead_of bs e) (record { answer = Ok b; left = bs; peeked = false }))
     at q true = fair_on b bs _ q
     at q false = fair_next b bs _
 
@@ -116,16 +113,16 @@ four_fair a (b ∷ c ∷ d ∷ bs) e = fair_on b (c ∷ d ∷ bs) _ (fair_on c (
 head_fair : (bs : List ℕ) (e : Ending) → Fair bs (head_of bs e)
 head_fair bs e = at (lead_of bs e) (lead_fair bs e) (lead_of bs e).answer
   where
-    at : (r : Read Next) → Fair bs r → (x : Next) → Fair bs (head_by x r e)
-    at r q (End z) = record { behind = q.behind; met_end = q.met_end }
-    at r q (Byte b) =
+    at : (r : Read (Result ℕ Ending)) → Fair bs r → (x : Result ℕ Ending) → Fair bs (head_by x r e)
+    at r q (Err z) = record { behind = q.behind; met_end = q.met_end }
+    at r q (Ok b) =
         let f = four_fair b r.left e in
         record { behind = behind_trans f.behind q.behind; met_end = f.met_end }
 
 begin_sound : (k : EexecState) (bs : List ℕ) (e : Ending) → Sound (length bs) bs (begin_of k bs e)
 begin_sound k bs e = at (head_of bs e) (head_fair bs e) (head_of bs e).answer
   where
-    at : (r : Read (Result Head Ending)) → Fair bs r → (x : Result Head Ending) → Sound (length bs) bs (begin_by k x r e)
+    at : (r : Read (Result (List ℕ) Ending)) → Fair bs r → (x : Result (List ℕ) Ending) → Sound (length bs) bs (begin_by k x r e)
     at r q (Err z) = ended_sound (length bs) bs r _ _ q
     at r q (Ok f) =
         sound_behind q.behind (behind_fewer q.behind) (behind_sound (still (form_of f)) (form_of f) (key_behind (form_of f) f k.key) r.left e)

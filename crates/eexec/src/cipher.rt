@@ -1,8 +1,8 @@
 ghost use Rattle.std.specs.Prelude.{◌≡◌};
-ghost use Rattle.eexec.specs.Cipher.{plain_of, key_after};
+ghost use Rattle.eexec.specs.Cipher.{plain_of, key_after, keys_after};
 
 // The cipher of Type 1 fonts, at its present key.
-#[derive(Clone, Copy)]
+#[derive(Clone, Copy, Debug, PartialEq, Eq)]
 pub struct Cipher {
     key: u16,
 }
@@ -19,8 +19,21 @@ impl Cipher {
         ensures plain { result ≡ plain_of self.old.key c }
         ensures key { self.new.key ≡ key_after self.old.key c }
     {
-        let plain = c ^ (self.key / 256) as u8;
-        self.key = (((u32::from(c) + u32::from(self.key)) * 52845 + 22719) % 65536) as u16;
+        let [high, _] = self.key.to_be_bytes();
+        let plain = c ^ high;
+        self.key = u16::from(c)
+            .wrapping_add(self.key)
+            .wrapping_mul(52845)
+            .wrapping_add(22719);
         plain
+    }
+
+    // Deciphers bytes whose plain bytes are dropped.
+    pub(crate) fn pass(&mut self, bytes: &[u8])
+        ensures { self.new.key ≡ keys_after self.old.key bytes.now }
+    {
+        for c in bytes {
+            self.decipher(*c);
+        }
     }
 }

@@ -1,7 +1,5 @@
-use Rattle.std.specs.Prelude.{◌≡◌, ℕ, zero, suc, List, [], ◌∷◌, ◌++◌, drop, Some, None, Option}
+use Rattle.std.specs.Prelude.{Result, Ok, Err, ◌≡◌, ℕ, zero, suc, List, [], ◌∷◌, ◌++◌, drop, Some, None, Option}
 use Rattle.source.specs.declared.ending.Ending.{Ending}
-use Rattle.source.specs.declared.interface.Next.{Next}
-use Rattle.source.specs.declared.interface.Next.TheVariants.{Byte, End}
 use Rattle.source.specs.Model.{Model, first}
 use Rattle.source.specs.Gone.{gone_to}
 use Rattle.decoding.specs.Step.{StepOf, Own, fresh}
@@ -14,9 +12,9 @@ pub data Ask : Type 0 where
   take : Ask
 
 -- the byte in an answer, if there is one
-abbrev pub byte_in : Next → List ℕ
-byte_in (Byte b) = b ∷ []
-byte_in (End e) = []
+abbrev pub byte_in : Result ℕ Ending → List ℕ
+byte_in (Ok b) = b ∷ []
+byte_in (Err e) = []
 
 -- one step more where no byte is ready and the filter has not ended
 abbrev pub counted : List ℕ → Option Ending → ℕ → ℕ

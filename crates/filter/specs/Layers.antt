@@ -1,8 +1,6 @@
-use Rattle.std.specs.Prelude.{ℕ, List, [], ◌∷◌, ◌++◌, Some, None, Option}
+use Rattle.std.specs.Prelude.{Result, Ok, Err, ℕ, List, [], ◌∷◌, ◌++◌, Some, None, Option}
 use Rattle.source.specs.declared.ending.Ending.{Ending}
 use Rattle.source.specs.declared.ending.Ending.TheVariants.{Clean}
-use Rattle.source.specs.declared.interface.Next.{Next}
-use Rattle.source.specs.declared.interface.Next.TheVariants.{Byte, End}
 use Rattle.source.specs.Model.{Model, tail}
 use Rattle.source.specs.Gone.{gone_to}
 use Rattle.source.specs.Reads.{Read}
@@ -15,10 +13,10 @@ abbrev pub layer_held : {K L S H : Type 0} → (K → Holds L) → (S → H) →
 layer_held holds held l = (own_of (holds l.kind) l.ended, held l.below)
 
 -- what stands in front: the first ready byte, or the ending
-abbrev pub front_of : List ℕ → Option Ending → Next
-front_of (b ∷ bs) o = Byte b
-front_of [] (Some e) = End e
-front_of [] None = End Clean
+abbrev pub front_of : List ℕ → Option Ending → Result ℕ Ending
+front_of (b ∷ bs) o = Ok b
+front_of [] (Some e) = Err e
+front_of [] None = Err Clean
 
 -- the bytes and the ending still to be decoded; none once it has ended
 abbrev pub bytes_ahead : Option Ending → Decoding → List ℕ

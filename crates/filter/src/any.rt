@@ -11,7 +11,8 @@ use eexec::Eexec;
 use source::{Ending, Source};
 use subfile::{Mark, SubFile};
 
-// One of the kinds of filter.
+// One of the kinds of filter. It is an enum and no boxed `dyn`, since a filter has no heap, and since a step is generic over
+// what stands below; so each method below is a match that hands over to the kind.
 #[derive(Clone, Copy)]
 pub enum AnyKind {
     AsciiHex(AsciiHex),
@@ -20,6 +21,7 @@ pub enum AnyKind {
     Eexec(Eexec),
 }
 
+#[tactic(auto, using(crate::proofs::AnyKindsLawful::any_kinds_law))]
 impl AnyKind {
     // ASCIIHexDecode, from its start.
     pub fn ascii_hex() -> AnyKind
@@ -57,7 +59,7 @@ impl AnyKind {
 impl Kind for AnyKind {
     const MOST: usize = 16;
 
-    ghost most = { 16 };
+    ghost MOST = { 16 };
 
     ghost State = { AnyState };
 
@@ -70,27 +72,11 @@ impl Kind for AnyKind {
     ghost within = { any_within };
 
     fn step<S: Source>(&mut self, below: &mut S) -> Option<Ending> {
-        match *self {
-            AnyKind::AsciiHex(mut kind) => {
-                let ended = kind.step(below);
-                *self = AnyKind::AsciiHex(kind);
-                ended
-            }
-            AnyKind::Ascii85(mut kind) => {
-                let ended = kind.step(below);
-                *self = AnyKind::Ascii85(kind);
-                ended
-            }
-            AnyKind::SubFile(mut kind) => {
-                let ended = kind.step(below);
-                *self = AnyKind::SubFile(kind);
-                ended
-            }
-            AnyKind::Eexec(mut kind) => {
-                let ended = kind.step(below);
-                *self = AnyKind::Eexec(kind);
-                ended
-            }
+        match self {
+            AnyKind::AsciiHex(kind) => kind.step(below),
+            AnyKind::Ascii85(kind) => kind.step(below),
+            AnyKind::SubFile(kind) => kind.step(below),
+            AnyKind::Eexec(kind) => kind.step(below),
         }
     }
 
@@ -104,23 +90,11 @@ impl Kind for AnyKind {
     }
 
     fn pop(&mut self) {
-        match *self {
-            AnyKind::AsciiHex(mut popped) => {
-                popped.pop();
-                *self = AnyKind::AsciiHex(popped);
-            }
-            AnyKind::Ascii85(mut popped) => {
-                popped.pop();
-                *self = AnyKind::Ascii85(popped);
-            }
-            AnyKind::SubFile(mut popped) => {
-                popped.pop();
-                *self = AnyKind::SubFile(popped);
-            }
-            AnyKind::Eexec(mut popped) => {
-                popped.pop();
-                *self = AnyKind::Eexec(popped);
-            }
+        match self {
+            AnyKind::AsciiHex(kind) => kind.pop(),
+            AnyKind::Ascii85(kind) => kind.pop(),
+            AnyKind::SubFile(kind) => kind.pop(),
+            AnyKind::Eexec(kind) => kind.pop(),
         }
     }
 
@@ -131,9 +105,5 @@ impl Kind for AnyKind {
             AnyKind::SubFile(kind) => kind.count(),
             AnyKind::Eexec(kind) => kind.count(),
         }
-    }
-
-    fn most_held() -> usize {
-        Self::MOST
     }
 }

@@ -11,11 +11,10 @@ pub trait Filter: Source {
     // What stands below.
     type Below: Source;
 
-    // The most bytes that it ever holds.
+    // The most bytes that it ever holds; contracts know it by the same name.
     const MOST: usize;
 
-    // the same number, for contracts
-    ghost most: { ℕ };
+    ghost MOST: { ℕ };
 
     // what stands below, as it is now
     ghost under: { Self → Self.Below };
@@ -35,7 +34,7 @@ pub trait Filter: Source {
     // what it makes of the rest and the ending below; and it ends as it has ended, or as that ends.
     fn held_count(&self) -> usize
         ensures is { result ≡ length (ready self.now) + length (compared self.now) }
-        ensures few { result ≤ most }
+        ensures few { result ≤ MOST }
         ensures rest { Self.Source.model.rest (Self.Source.held self.now) ≡ ready self.now ++ bytes_ahead (ended self.now) (decodes self.now (Self.Below.Source.model.rest (Self.Below.Source.held (under self.now))) (Self.Below.Source.model.ending (Self.Below.Source.held (under self.now)))) }
         ensures ending { Self.Source.model.ending (Self.Source.held self.now) ≡ ending_ahead (ended self.now) (decodes self.now (Self.Below.Source.model.rest (Self.Below.Source.held (under self.now))) (Self.Below.Source.model.ending (Self.Below.Source.held (under self.now)))) };
 
@@ -46,8 +45,4 @@ pub trait Filter: Source {
     // Gives back what stands below, as it is; what is held is dropped.
     fn into_below(self) -> Self::Below
         ensures { Self.Below.Source.held result ≡ Self.Below.Source.held (under self) };
-
-    // The most, as a number of the code.
-    fn most_held() -> usize
-        ensures { result ≡ most };
 }

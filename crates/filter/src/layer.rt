@@ -7,7 +7,7 @@ ghost use Rattle.filter.specs.LayerSound.{layer_lawful};
 
 use crate::filter::Filter;
 use decoding::Kind;
-use source::{Ending, Next, Source};
+use source::{Ending, Source};
 
 // A filter of the kind K over what stands below it.
 #[derive(Drop)]
@@ -40,16 +40,11 @@ impl<K: Kind, S: Source> Layer<K, S> {
     }
 
     // The first ready byte, or the ending.
-    fn front(&self) -> Next
+    fn front(&self) -> Result<u8, Ending>
         ensures { result ≡ front_of (K.Kind.holds self.now.kind).ready self.now.ended }
     {
-        match self.kind.first() {
-            Some(b) => Next::Byte(b),
-            None => match self.ended {
-                Some(ending) => Next::End(ending),
-                None => Next::End(Ending::Clean),
-            },
-        }
+        // behind a fill nothing is ready only where it has ended
+        self.kind.first().ok_or(self.ended.unwrap_or(Ending::Clean))
     }
 }
 
@@ -62,12 +57,12 @@ impl<K: Kind, S: Source> Source for Layer<K, S> {
 
     ghost lawful = { layer_lawful K.Kind.step_of K.Kind.lawful_step S.Source.model S.Source.lawful };
 
-    fn look(&mut self) -> Next {
+    fn look(&mut self) -> Result<u8, Ending> {
         self.fill();
         self.front()
     }
 
-    fn take(&mut self) -> Next {
+    fn take(&mut self) -> Result<u8, Ending> {
         self.fill();
         let next = self.front();
         self.kind.pop();
@@ -80,7 +75,7 @@ impl<K: Kind + Drop, S: Source> Filter for Layer<K, S> {
 
     const MOST: usize = K::MOST;
 
-    ghost most = { K.Kind.most };
+    ghost MOST = { K.Kind.MOST };
 
     ghost under = { λ l. l.below };
 
@@ -102,9 +97,5 @@ impl<K: Kind + Drop, S: Source> Filter for Layer<K, S> {
 
     fn into_below(self) -> S {
         self.below
-    }
-
-    fn most_held() -> usize {
-        K::most_held()
     }
 }

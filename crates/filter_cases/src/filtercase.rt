@@ -1,6 +1,6 @@
-use crate::reading::{read_bytes, read_ending};
-use anyhow::anyhow;
+use anyhow::Context;
 use filter::{AnyKind, Mark};
+use given::{read_bytes, read_ending};
 use source::Ending;
 use std::alloc::Global;
 
@@ -15,15 +15,9 @@ pub struct FilterCase<'a> {
 
 // Reads `KINDS ASKS ENDING BYTES`.
 pub fn read_filter_case<'a>(heap: Global, line: &'a str) -> anyhow::Result<FilterCase<'a>> {
-    let Some((kinds, rest)) = line.split_once(' ') else {
-        return Err(anyhow!("no asks"));
-    };
-    let Some((asks, rest)) = rest.split_once(' ') else {
-        return Err(anyhow!("no ending"));
-    };
-    let Some((ending, bytes)) = rest.split_once(' ') else {
-        return Err(anyhow!("no bytes"));
-    };
+    let (kinds, rest) = line.split_once(' ').context("no asks")?;
+    let (asks, rest) = rest.split_once(' ').context("no ending")?;
+    let (ending, bytes) = rest.split_once(' ').context("no bytes")?;
     Ok(FilterCase {
         kinds: read_kinds(heap, kinds)?,
         asks,
@@ -52,15 +46,11 @@ fn read_kind(heap: Global, word: &str) -> anyhow::Result<AnyKind> {
 
 // `sub:COUNT:MARK`, the mark in hexadecimal, `-` for none.
 fn read_subfile(heap: Global, word: &str) -> anyhow::Result<AnyKind> {
-    let Some(rest) = word.strip_prefix("sub:") else {
-        return Err(anyhow!("no kind"));
-    };
-    let Some((count, mark)) = rest.split_once(':') else {
-        return Err(anyhow!("no mark"));
-    };
+    let rest = word.strip_prefix("sub:").context("no kind")?;
+    let (count, mark) = rest.split_once(':').context("no mark")?;
     let bytes = read_bytes(heap, mark)?;
-    match Mark::new(bytes.as_slice()) {
-        Ok(mark) => Ok(AnyKind::subfile(count.parse::<u32>()?, mark)),
-        Err(_) => Err(anyhow!("a mark of over 16 bytes")),
-    }
+    let mark = Mark::new(bytes.as_slice())
+        .ok()
+        .context("a mark of over 16 bytes")?;
+    Ok(AnyKind::subfile(count.parse::<u32>()?, mark))
 }

@@ -1,6 +1,6 @@
 use Rattle.std.proofs.Common.{◌≡◌, ℕ, suc, ◌+◌, ◌-◌, ◌*◌, ◌/◌, ◌%◌, ◌^◌, ◌<◌, ◌≤◌, true, false, List, [], ◌∷◌, ◌++◌, length, get_or, decimal, sym, refl, ap, ◌∙◌, ap₂, inl, inr, arith, rules}
 use Rattle.std.specs.Int.{IsInRange}
-use Rattle.std.proofs.lemmas.Bool.{cases_Bool, cases_lt, cond-true, cond-false, cond_both, true≢false}
+use Rattle.std.proofs.lemmas.Bool.{cases_Bool, cases_lt, cond-true, cond-false, true≢false}
 use Rattle.std.proofs.lemmas.List.{length-append}
 use Rattle.std.specs.List.{flat_map}
 use Rattle.std.proofs.lemmas.Bool.Decides.{nat_tests}
@@ -10,6 +10,7 @@ use Rattle.source.specs.Bytes.{digit_value, hex_digit, hex_pair_of}
 use Rattle.scanner.specs.FigureLaw.{worth, Figures}
 use Rattle.listing.specs.Shown.{plain, escape}
 use Rattle.listing.specs.Laws.{Decimals, ToldApart}
+use Rattle.listing.proofs.ShownUses.{escape_some}
 
 -- the worth of decimal figures, as the library weighs them
 abbrev weight : List ℕ → ℕ
@@ -81,9 +82,6 @@ escape_apart x y xs ys e =
             (omega arith, cc)
       ]
     ]
-
-escape_some : (x : ℕ) → 0 < length (escape x)
-escape_some x = cond_both (plain x) _ _ (λ z. 0 < length z) (λ e. omega arith) (λ e. omega arith)
 
 hex_digit_apart : (c d : ℕ) → hex_digit c ≡ hex_digit d → c ≡ d
 hex_digit_apart c d e = grind (arith, nat_tests)

@@ -1,7 +1,10 @@
+pub mod PutUses
 pub mod PlacingUses
+pub mod LineUses
+pub mod AreaUses
 pub mod DecimalUses
 pub mod JoinedUses
 pub mod ShownUses
-pub mod LineUses
+pub mod ShortLines
 pub mod Worked
 pub mod Lawful

@@ -1,7 +1,9 @@
 pub mod Refusals
 pub mod Placing
+pub mod Puts
 pub mod Shown
 pub mod Words
 pub mod Lines
+pub mod Texts
 pub mod Examples
 pub mod Laws

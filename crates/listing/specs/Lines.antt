@@ -2,7 +2,7 @@ use Rattle.std.specs.Prelude.{◌≡◌, ℕ, ◌<◌, ◌≤◌, List, [], ◌�
 use Rattle.source.specs.declared.ending.Ending.{Ending}
 use Rattle.source.specs.declared.ending.Ending.TheVariants.{Clean, Damaged}
 use Rattle.source.specs.declared.fault.Fault.{Fault}
-use Rattle.source.specs.Numbers.{damage_number, fault_number}
+use Rattle.source.specs.Numbers.{damage_number, fault_number, fault_depth}
 use Rattle.scanner.specs.declared.kinds.Token.{Token}
 use Rattle.listing.specs.declared.refusal.Refusal.{Refusal}
 use Rattle.listing.specs.declared.refusal.Refusal.TheVariants.{Line}
@@ -43,7 +43,7 @@ ending_text (Damaged damage depth) = fault_text (damage_number damage) depth
 
 -- the line of a fault
 abbrev pub flaw_text : Fault → List ℕ
-flaw_text fault = fault_text (fault_number fault.cause) fault.depth
+flaw_text fault = fault_text (fault_number fault) (fault_depth fault)
 
 -- a text is printed into an area: it stands at the area's start, and its length is the answer; where it does not fit
 -- the call is refused, and the area is as it was

@@ -1,11 +1,7 @@
-use Rattle.std.specs.Prelude.{◌≡◌, ℕ, ◌+◌, ◌≤◌, cond, List, ◌++◌, length, take, drop, Some, None, Option, nat_le}
+use Rattle.std.specs.Prelude.{◌≡◌, ℕ, ◌+◌, ◌≤◌, List, ◌++◌, length, take, drop}
 
 -- a piece was written over what stood at a place, all else is as it was, and r is the place behind the piece
 pub record Placed (at : ℕ) (piece before : List ℕ) (r : ℕ) (after : List ℕ) : Type 0 where
   pub within : at + length piece ≤ length before
   pub behind : r ≡ at + length piece
   pub holds : after ≡ take at before ++ (piece ++ drop (at + length piece) before)
-
--- a size, if the room is enough for it
-abbrev pub fitting : ℕ → ℕ → Option ℕ
-fitting room size = cond (nat_le size room) (Some size) None

@@ -1,4 +1,5 @@
-use Rattle.std.specs.Prelude.{ℕ, ◌+◌, ◌/◌, ◌%◌, Bool, cond, not, ◌&&◌, List, [], ◌∷◌, ℤ, ◌==◌, nat_le}
+use Rattle.std.specs.Prelude.{ℕ, ◌+◌, ◌/◌, ◌%◌, Bool, cond, not, ◌&&◌, List, [], ◌∷◌, ◌==◌, nat_le, ◌^◌, ◌<◌, ⊤}
+use lib.Signed.{mag}
 use Rattle.std.specs.List.{flat_map}
 use Rattle.std.specs.Fmt.{signed_decimal}
 use Rattle.source.specs.Bytes.{hex_pair_of}
@@ -24,13 +25,13 @@ escaped = flat_map escape
 abbrev pub hexadecimal : List ℕ → List ℕ
 hexadecimal = flat_map hex_pair_of
 
--- how the content of a token is shown
+-- how the content of a token of this kind is shown
 abbrev pub form_of : Kind → Form
 form_of kind.End = Nothing
 form_of kind.Name = Escaped
 form_of kind.Literal = Escaped
 form_of kind.Immediate = Escaped
-form_of kind.Integer = Decimal
+form_of (kind.Integer value) = Decimal value
 form_of kind.Real = Plain
 form_of kind.String = Hexadecimal
 form_of kind.HexString = Hexadecimal
@@ -41,12 +42,20 @@ form_of kind.CloseProcedure = Nothing
 form_of kind.OpenDictionary = Nothing
 form_of kind.CloseDictionary = Nothing
 
-abbrev pub shown_by : Form → ℤ → List ℕ → List ℕ
-shown_by Nothing value content = []
-shown_by Escaped value content = escaped content
-shown_by Decimal value content = signed_decimal value
-shown_by Plain value content = content
-shown_by Hexadecimal value content = hexadecimal content
+abbrev pub shown_by : Form → List ℕ → List ℕ
+shown_by Nothing content = []
+shown_by Escaped content = escaped content
+shown_by (Decimal value) content = signed_decimal value
+shown_by Plain content = content
+shown_by Hexadecimal content = hexadecimal content
 
 abbrev pub shown : Token → List ℕ → List ℕ
-shown token content = shown_by (form_of token.kind) token.value content
+shown token content = shown_by (form_of token.kind) content
+
+-- a value that is shown has 32 bits
+abbrev pub Small : Form → Type 0
+Small Nothing = ⊤
+Small Escaped = ⊤
+Small (Decimal value) = mag value < 2 ^ 32
+Small Plain = ⊤
+Small Hexadecimal = ⊤

@@ -1,70 +1,75 @@
-ghost use Rattle.std.specs.Prelude.{◌≡◌, ◌+◌, ◌≤◌, length};
-ghost use Rattle.listing.specs.Placing.{Placed, fitting};
-ghost use Rattle.listing.specs.Shown.{form_of, shown};
+ghost use Rattle.std.specs.Prelude.{◌≡◌, ◌==◌, length};
+ghost use Rattle.listing.specs.Lines.{spaced};
+ghost use Rattle.listing.specs.Puts.{Puts};
+ghost use Rattle.listing.specs.Shown.{Small, form_of, shown_by};
 
-use crate::decimals::{integer_size, put_integer};
-use crate::names::{name_size, put_name};
-use crate::places::put_bytes;
-use crate::strings::{put_string, string_size};
-use scanner::{Kind, Token};
+use crate::decimals::put_integer;
+use crate::names::Escaped;
+use crate::refusal::Refusal;
+use crate::shape::Shape;
+use crate::sink::Sink;
+use crate::strings::Hexadecimal;
+use scanner::Kind;
 
 // How the content of a token is shown.
-#[derive(Clone, Copy)]
+#[derive(Clone, Copy, Debug, PartialEq, Eq)]
 pub enum Form {
     // not at all
     Nothing,
     // a name, with its other bytes in octal
     Escaped,
-    // the value of the token, and not its content
-    Decimal,
+    // a value, and not the content
+    Decimal(i32),
     // as it is
     Plain,
     // two digits for each byte
     Hexadecimal,
 }
 
-fn form_of(kind: Kind) -> Form
-    ensures { result ≡ form_of kind }
+pub(crate) fn form_of(kind: Kind) -> Form
+    ensures is { result ≡ form_of kind }
+    ensures small { Small result }
 {
     match kind {
         Kind::Name | Kind::Literal | Kind::Immediate => Form::Escaped,
-        Kind::Integer => Form::Decimal,
+        Kind::Integer(value) => Form::Decimal(value),
         Kind::Real => Form::Plain,
         Kind::String | Kind::HexString => Form::Hexadecimal,
         _ => Form::Nothing,
     }
 }
 
-// A size, if the room is enough for it.
-fn within(room: usize, size: usize) -> Option<usize>
-    ensures { result ≡ fitting room size }
+// Whether nothing is shown of a content.
+fn shows_nothing(form: Form, content: &[u8]) -> bool
+    ensures { result ≡ (length (shown_by form content.now) == 0) }
 {
-    if size <= room { Some(size) } else { None }
-}
-
-// How many bytes show the content of a token, if the room is enough for them.
-pub(crate) fn shown_size(token: Token, content: &[u8], room: usize) -> Option<usize>
-    ensures { result ≡ fitting room (length (shown token content.now)) }
-{
-    match form_of(token.kind) {
-        Form::Nothing => Some(0),
-        Form::Escaped => name_size(content, room),
-        Form::Decimal => within(room, integer_size(token.value)),
-        Form::Plain => within(room, content.len()),
-        Form::Hexadecimal => string_size(content, room),
+    match form {
+        Form::Nothing => true,
+        Form::Decimal(_) => false,
+        Form::Escaped | Form::Plain | Form::Hexadecimal => content.is_empty(),
     }
 }
 
-// Writes the content of a token as it is shown.
-pub(crate) fn put_shown(line: &mut [u8], at: usize, token: Token, content: &[u8]) -> usize
-    requires { at + length (shown token content.now) ≤ length line.old }
-    ensures { Placed at (shown token content.now) line.old result line.new }
+// Puts a content as it is shown.
+fn put_shown<S: Sink>(out: &mut S, form: Form, content: &[u8]) -> Result<(), Refusal>
+    ensures { Puts S.room S.takes out.old (shown_by form content.now) result out.new }
 {
-    match form_of(token.kind) {
-        Form::Nothing => at,
-        Form::Escaped => put_name(line, at, content),
-        Form::Decimal => put_integer(line, at, token.value),
-        Form::Plain => put_bytes(line, at, content),
-        Form::Hexadecimal => put_string(line, at, content),
+    match form {
+        Form::Nothing => Ok(()),
+        Form::Escaped => Escaped::put_each(out, content),
+        Form::Decimal(value) => put_integer(out, value),
+        Form::Plain => out.put_all(content),
+        Form::Hexadecimal => Hexadecimal::put_each(out, content),
     }
+}
+
+// Puts a blank and then a content as it is shown; nothing where nothing is shown of it.
+pub(crate) fn put_content<S: Sink>(out: &mut S, form: Form, content: &[u8]) -> Result<(), Refusal>
+    ensures { Puts S.room S.takes out.old (spaced (shown_by form content.now)) result out.new }
+{
+    if shows_nothing(form, content) {
+        return Ok(());
+    }
+    out.put(b' ')?;
+    put_shown(out, form, content)
 }

@@ -1,51 +1,28 @@
-ghost use Rattle.std.specs.Prelude.{◌≡◌, ◌+◌, ◌≤◌, length, decimal};
+ghost use Rattle.std.specs.Prelude.{decimal};
 ghost use Rattle.std.specs.Fmt.{signed_decimal};
-ghost use Rattle.listing.specs.Placing.{Placed};
+ghost use Rattle.listing.specs.Puts.{Puts};
 
-use crate::places::put_byte;
+use crate::refusal::Refusal;
+use crate::sink::Sink;
 
-// How many decimal digits a number has.
-pub(crate) fn number_size(n: u32) -> usize
-    ensures is { result ≡ length (decimal n) }
-    ensures bound { result ≤ 10 }
+// By code of this crate, since `write!` promises nothing where it fails, and a line is refused only where it does not fit.
+
+// Puts a number in decimal: what stands before its last digit, then that digit.
+pub(crate) fn put_number<S: Sink>(out: &mut S, n: u32) -> Result<(), Refusal>
+    ensures { Puts S.room S.takes out.old (decimal n) result out.new }
 {
-    if n < 10 {
-        return 1;
+    if n >= 10 {
+        put_number(out, n / 10)?;
     }
-    number_size(n / 10) + 1
+    out.put(b'0' + (n % 10) as u8)
 }
 
-// Writes a number in decimal: what stands before its last digit, then that digit.
-pub(crate) fn put_number(line: &mut [u8], at: usize, n: u32) -> usize
-    requires { at + length (decimal n) ≤ length line.old }
-    ensures { Placed at (decimal n) line.old result line.new }
+// Puts a signed number in decimal, with `-` before a negative one.
+pub(crate) fn put_integer<S: Sink>(out: &mut S, value: i32) -> Result<(), Refusal>
+    ensures { Puts S.room S.takes out.old (signed_decimal value) result out.new }
 {
-    let last = b'0' + (n % 10) as u8;
-    if n < 10 {
-        return put_byte(line, at, last);
-    }
-    let behind = put_number(line, at, n / 10);
-    put_byte(line, behind, last)
-}
-
-// How many bytes a signed number has in decimal.
-pub(crate) fn integer_size(value: i32) -> usize
-    ensures is { result ≡ length (signed_decimal value) }
-    ensures bound { result ≤ 11 }
-{
-    let size = number_size(value.unsigned_abs());
-    if value < 0 { size + 1 } else { size }
-}
-
-// Writes a signed number in decimal, with `-` before a negative one.
-pub(crate) fn put_integer(line: &mut [u8], at: usize, value: i32) -> usize
-    requires { at + length (signed_decimal value) ≤ length line.old }
-    ensures { Placed at (signed_decimal value) line.old result line.new }
-{
-    let number = value.unsigned_abs();
     if value < 0 {
-        let behind = put_byte(line, at, b'-');
-        return put_number(line, behind, number);
+        out.put(b'-')?;
     }
-    put_number(line, at, number)
+    put_number(out, value.unsigned_abs())
 }

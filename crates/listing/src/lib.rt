@@ -1,12 +1,16 @@
 #![tactic(auto)]
 
+mod area;
 mod contents;
 mod decimals;
 mod lines;
 mod names;
-mod places;
 mod refusal;
+mod room;
+mod shape;
+mod sink;
 mod strings;
+mod text;
 mod words;
 
 pub use lines::{ending_line, fault_line, token_line};

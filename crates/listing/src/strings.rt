@@ -1,9 +1,9 @@
-ghost use Rattle.std.specs.Prelude.{◌≡◌, ◌+◌, ◌<◌, ◌≤◌, length};
-ghost use Rattle.listing.specs.Placing.{Placed, fitting};
+ghost use Rattle.std.specs.Prelude.{◌≡◌, ◌<◌};
 ghost use Rattle.source.specs.Bytes.{hex_digit, hex_pair_of};
-ghost use Rattle.listing.specs.Shown.{hexadecimal};
 
-use crate::places::put_byte;
+use crate::refusal::Refusal;
+use crate::shape::Shape;
+use crate::sink::Sink;
 
 // A hexadecimal digit, with a capital letter.
 fn hex_digit(d: u8) -> u8
@@ -13,34 +13,13 @@ fn hex_digit(d: u8) -> u8
     if d < 10 { b'0' + d } else { b'A' + (d - 10) }
 }
 
-// Writes a byte as two hexadecimal digits, the high half first.
-fn put_pair(line: &mut [u8], at: usize, b: u8) -> usize
-    requires { at + length (hex_pair_of b) ≤ length line.old }
-    ensures { Placed at (hex_pair_of b) line.old result line.new }
-{
-    let low = put_byte(line, at, hex_digit(b / 16));
-    put_byte(line, low, hex_digit(b % 16))
-}
+// A string: two hexadecimal digits for each byte, the high half first.
+pub(crate) struct Hexadecimal;
 
-// How many bytes show a string, if the room is enough for them.
-pub(crate) fn string_size(content: &[u8], room: usize) -> Option<usize>
-    ensures { result ≡ fitting room (length (hexadecimal content.now)) }
-{
-    // compared by the half, since the double may wrap
-    if room / 2 < content.len() {
-        return None;
-    }
-    Some(2 * content.len())
-}
+impl Shape for Hexadecimal {
+    ghost shows = { hex_pair_of };
 
-// Writes a string as it is shown.
-pub(crate) fn put_string(line: &mut [u8], at: usize, content: &[u8]) -> usize
-    requires { at + length (hexadecimal content.now) ≤ length line.old }
-    ensures { Placed at (hexadecimal content.now) line.old result line.new }
-{
-    let mut end = at;
-    for b in content {
-        end = put_pair(line, end, *b);
+    fn put_byte<S: Sink>(out: &mut S, b: u8) -> Result<(), Refusal> {
+        out.put_all(&[hex_digit(b / 16), hex_digit(b % 16)])
     }
-    end
 }

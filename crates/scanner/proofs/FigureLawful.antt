@@ -1,10 +1,11 @@
-use Rattle.std.proofs.Common.{◌≡◌, ℕ, ◌+◌, ◌*◌, ◌^◌, ◌<◌, ◌≤◌, true, false, cond, ◌&&◌, ◌||◌, eqb, ltb, leb, List, [], ◌∷◌, ◌++◌, length, Some, None, sym, refl, ap, ◌∙◌, ap₂, add_assoc, mul_assoc, mul_comm, add-mul, pow-suc, arith}
+use Rattle.std.proofs.Common.{◌≡◌, ℕ, ◌+◌, ◌*◌, ◌^◌, ◌<◌, ◌≤◌, true, false, cond, ◌&&◌, ◌||◌, eqb, ltb, leb, List, [], ◌∷◌, ◌++◌, length, Some, None, Ok, Result, sym, refl, ap, ◌∙◌, ap₂, add_assoc, mul_assoc, mul_comm, add-mul, pow-suc, arith}
 use native.Mathlib.Nat.{pow-zero}
 use Rattle.std.proofs.lemmas.Bool.{cond-true, cond-false, lt-ltb, le-leb, lt-leb, and_from}
 use Rattle.std.proofs.lemmas.Bool.Decides.{nat_tests}
 use Rattle.source.specs.Bytes.{digit_value}
-use Rattle.scanner.specs.declared.words.Word.{Word}
-use Rattle.scanner.specs.declared.words.Word.TheVariants.{Real, Name}
+use Rattle.source.specs.declared.fault.Fault.{Fault}
+use Rattle.scanner.specs.declared.kinds.Kind.{Kind}
+use Rattle.scanner.specs.declared.kinds.Kind.TheVariants.{Real, Name}
 use Rattle.scanner.specs.Digits.{digits_behind, digits_of}
 use Rattle.scanner.specs.Numbers.{sign, behind_one, behind_sign, negative, signed_value, integer_of, integer_or, radix_or, radix_in, radix_value, radix_of, twos_of, behind_digits, exponent, real_behind_sign, real_of, word_of}
 use Rattle.scanner.specs.FigureLaw.{worth, Figures, FigureLaw}
@@ -66,11 +67,11 @@ bare_integer : (s : List ℕ) → 0 < length s → Figures 10 s → integer_of s
 bare_integer s h f =
     ap₂ (λ m d. signed_value m d) (figures_bare s f).1 (ap (digits_of 10) (figures_bare s f).0 ∙ some_worth 10 s h f)
 
-abbrev rest_word : List ℕ → Word
-rest_word s = radix_or (radix_of s) (cond (real_of s) Real Name)
+abbrev rest_word : List ℕ → Result Kind Fault
+rest_word s = radix_or (radix_of s) (cond (real_of s) (Ok Real) (Ok Name))
 
-real_word : (s : List ℕ) → radix_of s ≡ None → real_of s ≡ true → rest_word s ≡ Real
-real_word s p q = ap (λ o. radix_or o (cond (real_of s) Real Name)) p ∙ cond-true (real_of s) Real Name q
+real_word : (s : List ℕ) → radix_of s ≡ None → real_of s ≡ true → rest_word s ≡ Ok Real
+real_word s p q = ap (λ o. radix_or o (cond (real_of s) (Ok Real) (Ok Name))) p ∙ cond-true (real_of s) (Ok Real) (Ok Name) q
 
 -- figures, a # and figures are no integer
 hash_stops : (v : ℕ) (base s : List ℕ) → Figures 10 base → digits_behind 10 v (base ++ 35 ∷ s) ≡ None
@@ -93,11 +94,11 @@ radix_word :
 radix_word [] s h k f lo hi n g = let no_way : ⊥ = omega arith in absurd no_way
 radix_word (a ∷ []) s h k f lo hi n g =
     ap (λ o. integer_or o (rest_word (a ∷ 35 ∷ s))) (no_integer a [] s f)
-    ∙ ap (λ o. radix_or o (cond (real_of (a ∷ 35 ∷ s)) Real Name))
+    ∙ ap (λ o. radix_or o (cond (real_of (a ∷ 35 ∷ s)) (Ok Real) (Ok Name)))
     (ap (λ o. radix_in o s) (some_worth 10 (a ∷ []) h f) ∙ in_base (worth 10 (a ∷ [])) s lo hi n g)
 radix_word (a ∷ b ∷ []) s h k f lo hi n g =
     ap (λ o. integer_or o (rest_word (a ∷ b ∷ 35 ∷ s))) (no_integer a (b ∷ []) s f)
-    ∙ ap (λ o. radix_or o (cond (real_of (a ∷ b ∷ 35 ∷ s)) Real Name))
+    ∙ ap (λ o. radix_or o (cond (real_of (a ∷ b ∷ 35 ∷ s)) (Ok Real) (Ok Name)))
     (cond-false (eqb b 35) _ _ (digit_tells b f.1.0).2
     ∙ (ap (λ o. radix_in o s) (some_worth 10 (a ∷ b ∷ []) h f) ∙ in_base (worth 10 (a ∷ b ∷ [])) s lo hi n g))
 radix_word (a ∷ b ∷ c ∷ base) s h k f lo hi n g = let no_way : ⊥ = omega arith in absurd no_way

@@ -1,15 +1,17 @@
-use Rattle.std.proofs.Common.{◌≡◌, ℕ, ◌+◌, ◌*◌, ◌/◌, ◌%◌, ◌<◌, ◌≤◌, false, eqb, ltb, List, [], ◌∷◌, ◌++◌, length, Some, None, sym, refl, ap, ◌∙◌, append_assoc, arith}
+use Rattle.std.proofs.Common.{◌≡◌, ℕ, ◌+◌, ◌/◌, ◌%◌, ◌<◌, ◌≤◌, false, eqb, ltb, List, [], ◌∷◌, ◌++◌, length, Some, None, sym, refl, ap, ◌∙◌, append_assoc, arith}
 use Rattle.std.specs.List.{flat_map}
 use Rattle.std.proofs.lemmas.List.{append-nil, length-append}
 use Rattle.std.proofs.lemmas.Bool.{cond-true, cond-false, lt-ltb, ne_eqb}
 use Rattle.std.proofs.lemmas.Bool.Decides.{nat_tests}
 use Rattle.source.specs.declared.ending.Ending.{Ending}
-use Rattle.source.specs.Bytes.{digit_value, hex_digit, hex_pair_of}
-use Rattle.scanner.specs.declared.hex.HexByte.TheVariants as byte
+use Rattle.source.specs.Bytes.{digit_value, hex_digit, hex_pair_of, Bytes}
+use Rattle.source.specs.Hex.{paired, hex_byte_of, hex_turn_of}
+use Rattle.source.specs.declared.hex.HexByte.TheVariants as byte
 use Rattle.scanner.specs.declared.kinds.Kind.TheVariants.{HexString}
-use Rattle.scanner.specs.HexStrings.{hex_byte_of, hex_turn_of, hex_turn, hex_closed, hex_at}
-use Rattle.scanner.specs.Tokens.{as_token, hex_token_of, doubled_by, less_by, less_of, unfit}
-use Rattle.scanner.specs.HexLaw.{Bytes, HexLaw}
+use Rattle.scanner.specs.HexStrings.{hex_turn, hex_closed, hex_at}
+use Rattle.scanner.specs.Takes.{take_if_by}
+use Rattle.scanner.specs.Tokens.{as_token, hex_token_of, less_by, less_of, unfit}
+use Rattle.scanner.specs.HexLaw.{HexLaw}
 
 -- a figure has its value, and is no <
 figure_tells : (d : ℕ) → d < 16 → (digit_value (hex_digit d) ≡ d) × (eqb (hex_digit d) 60 ≡ false)
@@ -27,7 +29,7 @@ pair_read :
 pair_read b h room done rest e ne =
     let high : b / 16 < 16 = omega arith in
     let low : b % 16 < 16 = omega arith in
-    let whole : 16 * (b / 16) + b % 16 ≡ b = omega arith in
+    let whole : paired (b / 16) (b % 16) ≡ b = omega arith in
     ap (λ k. hex_turn (hex_turn_of None k) room done (hex_digit (b % 16) ∷ rest) (λ done half. hex_at room done half (hex_digit (b % 16) ∷ rest) e)) (figure_byte (b / 16) high)
     ∙ (ap (λ k. hex_turn (hex_turn_of (Some (b / 16)) k) room done rest (λ done half. hex_at room done half rest e)) (figure_byte (b % 16) low)
     ∙ (cond-false (eqb (length done) room) _ _ (ne_eqb (length done) room ne)
@@ -50,7 +52,7 @@ less_hexed [] f room behind e = refl
 less_hexed (b ∷ bs) f room behind e =
     let high : b / 16 < 16 = omega (arith, f.0) in
     let rest = hex_digit (b % 16) ∷ flat_map hex_pair_of bs ++ 62 ∷ behind in
-    ap (λ t. less_by (doubled_by t (hex_digit (b / 16)) rest).answer (doubled_by t (hex_digit (b / 16)) rest).left (doubled_by t (hex_digit (b / 16)) rest).peeked (hex_token_of room (doubled_by t (hex_digit (b / 16)) rest).left e))
+    ap (λ t. less_by (take_if_by t (hex_digit (b / 16)) rest).answer (take_if_by t (hex_digit (b / 16)) rest).left (take_if_by t (hex_digit (b / 16)) rest).peeked (hex_token_of room (take_if_by t (hex_digit (b / 16)) rest).left e))
     (figure_tells (b / 16) high).1
 
 pub hex_law : HexLaw

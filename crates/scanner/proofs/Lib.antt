@@ -1,4 +1,5 @@
 pub mod SpaceUses
+pub mod Mapped
 pub mod Area
 pub mod Scanning
 pub mod RunUses
@@ -12,7 +13,6 @@ pub mod TokenUses
 pub mod RunLawful
 pub mod StringLawful
 pub mod FigureLawful
-pub mod Worked
 pub mod AnswerLawful
 pub mod StartLawful
 pub mod HexLawful

@@ -1,16 +1,20 @@
-use Rattle.std.proofs.Common.{◌≡◌, ℕ, Bool, true, false, eqb, List, [], ◌∷◌, Some, None, Ok, Option, sym, ap, ◌∙◌, arith}
+use Rattle.std.proofs.Common.{◌≡◌, ℕ, Bool, true, false, eqb, List, [], ◌∷◌, Some, None, Ok, Option, sym, refl, ap, ◌∙◌, arith}
 use Rattle.source.specs.declared.ending.Ending.{Ending}
-use Rattle.source.proofs.Calls.{Steady, steady_here, steady_next, steady_then}
+use Rattle.source.specs.Bytes.{digit_of}
+use Rattle.source.specs.Model.{Model}
+use Rattle.source.specs.Laws.{Lawful}
+use Rattle.source.specs.Reads.{Reads}
+use Rattle.source.proofs.Calls.{Steady, steady_here, steady_next, steady_then, reads_then, reads_as}
 use Rattle.scanner.specs.declared.pieces.Escape.{Escape}
 use Rattle.scanner.specs.declared.pieces.Escape.TheVariants as escape
 use Rattle.scanner.specs.declared.pieces.Opening.{Opening}
 use Rattle.scanner.specs.declared.pieces.Opening.TheVariants as opening
 use Rattle.scanner.specs.Takes.{byte_of, take_if_by, take_if_of}
-use Rattle.scanner.specs.Pieces.{octal_digit, meaning_of, opening_of, octal_by, octal_of, number_by, number_of, escape_by, escape_of, piece_by, piece_of}
+use Rattle.scanner.specs.Pieces.{meaning_of, opening_of, octal_by, octal_of, number_last, number_by, number_of, escape_by, escape_of, piece_by, piece_of}
 
 pub steady_octal : (rest : List ℕ) (e : Ending) → Steady rest (octal_of rest e).left (octal_of rest e).peeked
 steady_octal [] e = steady_here []
-steady_octal (b ∷ bs) e = at (octal_digit b)
+steady_octal (b ∷ bs) e = at (digit_of 8 b)
   where
     at : (o : Option ℕ) → Steady (b ∷ bs) (octal_by o b bs).left (octal_by o b bs).peeked
     at None = steady_here (b ∷ bs)
@@ -67,3 +71,13 @@ escape_at rest e b k p q = ap (λ k. escape_by k (byte_of rest e).left e) q ∙ 
 
 pub piece_at : (rest : List ℕ) (e : Ending) (b : ℕ) (k : Opening) → Ok b ≡ (byte_of rest e).answer → k ≡ opening_of b → piece_by k b (byte_of rest e).left e ≡ piece_of rest e
 piece_at rest e b k p q = ap (λ k. piece_by k b (byte_of rest e).left e) q ∙ sym (ap (λ r. piece_of r e) (byte_first rest e b p))
+
+-- an octal number of a second digit, and a third or none
+pub number_read :
+    {H : Type 0} (m : Model H) (l : Lawful H m) (h h₁ h₂ : H) (d x : ℕ) (o : Option ℕ)
+    → Reads m octal_of h (Some x) h₁ → Reads m octal_of h₁ o h₂ → Reads m (number_of d) h (number_last d x o) h₂
+number_read m l h h₁ h₂ d x o a k =
+    let b = reads_then m l octal_of h (Some x) h₁ octal_of o h₂ (steady_octal _ _) steady_octal a k in
+    reads_as m l _ h o h₂ (number_of d) (number_last d x o) _ b
+    (ap (λ o. number_by d o (octal_of (m.rest h) (m.ending h)) (octal_of (octal_of (m.rest h) (m.ending h)).left (m.ending h))) a.answer)
+    (ap (number_last d x) b.answer) refl refl

@@ -1,8 +1,7 @@
 use Rattle.std.proofs.Common.{◌≡◌, ℕ, zero, suc, ◌+◌, ◌<◌, ◌≤◌, Bool, true, false, cond, not, List, [], ◌∷◌, ◌++◌, length, take, drop, Ok, Err, Result, sym, refl, ap, ◌∙◌, append_assoc, arith}
 use Rattle.std.proofs.lemmas.List.{append-nil, length-append}
-use Rattle.source.specs.declared.fault.Cause.TheVariants.{Limit}
+use Rattle.source.specs.declared.fault.Fault.TheVariants.{Limit}
 use Rattle.source.specs.Bytes.{white}
-use Rattle.source.specs.Numbers.{faulty}
 use Rattle.scanner.specs.declared.failure.Failure.{Failure}
 use Rattle.scanner.specs.declared.class.Class.{Class}
 use Rattle.scanner.specs.declared.class.Class.TheVariants.{White, Special, Regular}
@@ -73,7 +72,7 @@ short_run done (b ∷ bs) h = at (class_of b) refl h (short_run (done ++ b ∷ [
 
 -- a run that is too long, of which j bytes go before the 128th
 abbrev cut_of : List ℕ → List ℕ → Scan (Result ℕ Failure)
-cut_of done left = record { answer = Err (broken (faulty Limit) done); content = done; left = left; peeked = false }
+cut_of done left = record { answer = Err (broken Limit done); content = done; left = left; peeked = false }
 
 long_run : (j : ℕ) (done rest : List ℕ) → length done + j ≡ 127 → j < length (front_of rest) → run_at done rest ≡ cut_of (done ++ take j rest) (drop (suc j) rest)
 long_run j done [] e h = let no_way : ⊥ = omega arith in absurd no_way

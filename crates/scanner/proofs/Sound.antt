@@ -6,17 +6,18 @@ use Rattle.scanner.specs.declared.failure.Failure.{Failure}
 use Rattle.scanner.specs.declared.failure.Failure.TheVariants as failure
 use Rattle.scanner.specs.declared.class.Class.{Class}
 use Rattle.scanner.specs.declared.class.Class.TheVariants.{White, Special, Regular}
-use Rattle.scanner.specs.declared.hex.HexTurn.{HexTurn}
-use Rattle.scanner.specs.declared.hex.HexTurn.TheVariants as hexed
+use Rattle.source.specs.declared.hex.HexTurn.{HexTurn}
+use Rattle.source.specs.declared.hex.HexTurn.TheVariants as hexed
 use Rattle.scanner.specs.declared.pieces.Piece.{Piece}
 use Rattle.scanner.specs.declared.strings.Turn.{Turn}
 use Rattle.scanner.specs.declared.strings.Turn.TheVariants.{Put, Pass, Done}
+use Rattle.source.specs.Hex.{hex_byte_of, hex_turn_of}
 use Rattle.scanner.specs.Classes.{class_of}
 use Rattle.scanner.specs.Scan.{Scan}
 use Rattle.scanner.specs.Runs.{run_by, run_at}
 use Rattle.scanner.specs.Pieces.{piece_of}
 use Rattle.scanner.specs.Strings.{turn_of, string_turn, string_piece, string_at, string_of}
-use Rattle.scanner.specs.HexStrings.{hex_byte_of, hex_turn_of, hex_full, hex_closed, hex_turn, hex_at, hex_of}
+use Rattle.scanner.specs.HexStrings.{hex_full, hex_closed, hex_turn, hex_at, hex_of}
 use Rattle.scanner.proofs.PieceUses.{steady_piece}
 
 -- how many bytes of content an answer says that there are

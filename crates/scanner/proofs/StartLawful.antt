@@ -1,10 +1,9 @@
-use Rattle.std.proofs.Common.{◌≡◌, ℕ, Bool, true, false, cond, eqb, List, [], ◌∷◌, refl, ap, ◌∙◌, arith}
+use Rattle.std.proofs.Common.{◌≡◌, ℕ, Bool, true, false, cond, eqb, List, [], ◌∷◌, None, refl, ap, ◌∙◌, arith}
 use Rattle.std.proofs.lemmas.Bool.{cond-false, ne_eqb}
 use Rattle.std.proofs.lemmas.Bool.Decides.{nat_tests}
 use Rattle.source.specs.declared.ending.Ending.{Ending}
 use Rattle.source.specs.Bytes.{white}
 use Rattle.scanner.specs.declared.class.Class.TheVariants.{White, Special, Regular}
-use Rattle.scanner.specs.declared.tokens.Start.TheVariants as start
 use Rattle.scanner.specs.Classes.{special, class_of}
 use Rattle.scanner.specs.Runs.{run_at}
 use Rattle.scanner.specs.Spaces.{skip_by, skipped}
@@ -22,7 +21,7 @@ regular_tells b = at (white b) (special b)
     at false false e = (refl, refl)
 
 -- what is not special begins a run
-starts_run : (b : ℕ) → special b ≡ false → (eqb b 37 ≡ false) × (start_of b ≡ start.Run)
+starts_run : (b : ℕ) → special b ≡ false → (eqb b 37 ≡ false) × (start_of b ≡ None)
 starts_run b h = (grind (arith, nat_tests), grind (arith, nat_tests))
 
 stays : (b : ℕ) (bs : List ℕ) → white b ≡ false → eqb b 37 ≡ false → skipped false (b ∷ bs) ≡ b ∷ bs

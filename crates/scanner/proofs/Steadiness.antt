@@ -1,8 +1,7 @@
-use Rattle.std.proofs.Common.{◌≡◌, ℕ, Bool, true, false, eqb, List, [], ◌∷◌, Some, None, Ok, Err, Option, Result, sym, subst}
+use Rattle.std.proofs.Common.{◌≡◌, ℕ, Bool, true, false, List, [], ◌∷◌, Some, None, Ok, Err, Option, Result, sym, subst}
 use Rattle.std.proofs.lemmas.Bool.{cond-false}
 use Rattle.source.specs.declared.ending.Ending.{Ending}
 use Rattle.source.proofs.Calls.{Steady, steady_here, steady_next, steady_then}
-use Rattle.scanner.specs.declared.failure.Failure.{Failure}
 use Rattle.scanner.specs.declared.tokens.Start.{Start}
 use Rattle.scanner.specs.declared.tokens.Start.TheVariants as start
 use Rattle.scanner.specs.Scan.{Scan}
@@ -11,7 +10,7 @@ use Rattle.scanner.specs.Runs.{run_of}
 use Rattle.scanner.specs.Takes.{take_if_of}
 use Rattle.scanner.specs.Strings.{string_of}
 use Rattle.scanner.specs.HexStrings.{hex_of}
-use Rattle.scanner.specs.Tokens.{start_of, name_of, hex_token_of, doubled_by, doubled_of, less_by, less_of, next_by, next_of, unfit, token_of}
+use Rattle.scanner.specs.Tokens.{start_of, name_of, hex_token_of, less_by, less_of, next_by, next_of, unfit, token_of}
 use Rattle.scanner.proofs.PieceUses.{steady_take_if}
 use Rattle.scanner.proofs.Sound.{sound_run, sound_string, sound_hex}
 
@@ -40,30 +39,22 @@ steady_hex room rest e = (sound_hex room rest e).steady
 pub steady_name : (room : ℕ) (rest : List ℕ) (e : Ending) → SteadyScan rest (name_of room rest e)
 steady_name room rest e = steady_then (steady_take_if 47 rest e) (steady_run room (take_if_of 47 rest e).left e)
 
-pub steady_doubled : (wanted : ℕ) (rest : List ℕ) (e : Ending) → Steady rest (doubled_of wanted rest e).left (doubled_of wanted rest e).peeked
-steady_doubled wanted [] e = steady_here []
-steady_doubled wanted (b ∷ bs) e = at (eqb b wanted)
-  where
-    at : (o : Bool) → Steady (b ∷ bs) (doubled_by o b bs).left (doubled_by o b bs).peeked
-    at false = steady_here (b ∷ bs)
-    at true = steady_next b bs
-
 pub steady_less : (room : ℕ) (rest : List ℕ) (e : Ending) → SteadyScan rest (less_of room rest e)
-steady_less room rest e = at (doubled_of 60 rest e).answer
+steady_less room rest e = at (take_if_of 60 rest e).answer
   where
-    at : (a : Result Bool Failure) → SteadyScan rest (less_by a (doubled_of 60 rest e).left (doubled_of 60 rest e).peeked (hex_token_of room (doubled_of 60 rest e).left e))
-    at (Err f) = steady_doubled 60 rest e
-    at (Ok true) = steady_doubled 60 rest e
-    at (Ok false) = steady_then (steady_doubled 60 rest e) (steady_hex room (doubled_of 60 rest e).left e)
+    at : (a : Result Bool Ending) → SteadyScan rest (less_by a (take_if_of 60 rest e).left (take_if_of 60 rest e).peeked (hex_token_of room (take_if_of 60 rest e).left e))
+    at (Err f) = steady_take_if 60 rest e
+    at (Ok true) = steady_take_if 60 rest e
+    at (Ok false) = steady_then (steady_take_if 60 rest e) (steady_hex room (take_if_of 60 rest e).left e)
 
-next_step : (k : Start) (room b : ℕ) (bs : List ℕ) (e : Ending) → SteadyScan (b ∷ bs) (next_by k room b bs e)
-next_step start.Run room b bs e = steady_run room (b ∷ bs) e
-next_step start.String room b bs e = steady_then (steady_next b bs) (steady_string room bs e)
-next_step start.Slash room b bs e = steady_then (steady_next b bs) (steady_name room bs e)
-next_step start.Less room b bs e = steady_then (steady_next b bs) (steady_less room bs e)
-next_step start.Greater room b bs e = steady_then (steady_next b bs) (steady_doubled 62 bs e)
-next_step (start.Bracket k) room b bs e = steady_next b bs
-next_step start.Stray room b bs e = steady_next b bs
+next_step : (k : Option Start) (room b : ℕ) (bs : List ℕ) (e : Ending) → SteadyScan (b ∷ bs) (next_by k room b bs e)
+next_step None room b bs e = steady_run room (b ∷ bs) e
+next_step (Some start.String) room b bs e = steady_then (steady_next b bs) (steady_string room bs e)
+next_step (Some start.Slash) room b bs e = steady_then (steady_next b bs) (steady_name room bs e)
+next_step (Some start.Less) room b bs e = steady_then (steady_next b bs) (steady_less room bs e)
+next_step (Some start.Greater) room b bs e = steady_then (steady_next b bs) (steady_take_if 62 bs e)
+next_step (Some (start.Bracket k)) room b bs e = steady_next b bs
+next_step (Some start.Stray) room b bs e = steady_next b bs
 
 pub steady_next_token : (room : ℕ) (rest : List ℕ) (e : Ending) → SteadyScan rest (next_of room rest e)
 steady_next_token room [] e = steady_here []

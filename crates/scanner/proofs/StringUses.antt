@@ -5,13 +5,13 @@ use Rattle.source.specs.declared.ending.Ending.{Ending}
 use Rattle.source.specs.Model.{Model}
 use Rattle.source.specs.Laws.{Lawful}
 use Rattle.source.specs.Gone.{gone_to}
-use Rattle.source.proofs.Walk.{Walk, walk_start}
+use Rattle.source.proofs.Walk.{Walk}
 use Rattle.source.specs.Reads.{Reads}
 use Rattle.source.proofs.Calls.{walk_answer, walk_gone, walk_left, walk_on}
 use Rattle.source.proofs.Going.{behind_fewer}
-use Rattle.source.specs.declared.fault.Cause.TheVariants.{Limit}
+use Rattle.source.specs.declared.fault.Fault.TheVariants.{Limit}
 use Rattle.source.specs.declared.fault.Fault.{Fault}
-use Rattle.source.specs.Numbers.{faulty}
+use Rattle.scanner.specs.declared.failure.Failure.{Failure}
 use Rattle.scanner.specs.declared.failure.Failure.TheVariants as failure
 use Rattle.scanner.specs.declared.pieces.Opening.{Opening}
 use Rattle.scanner.specs.declared.pieces.Opening.TheVariants as opening
@@ -19,10 +19,11 @@ use Rattle.scanner.specs.declared.pieces.Piece.{Piece}
 use Rattle.scanner.specs.declared.strings.Turn.{Turn}
 use Rattle.scanner.specs.declared.strings.Turn.TheVariants.{Put, Pass, Done}
 use Rattle.scanner.specs.Failures.{broken}
+use Rattle.scanner.specs.Puts.{Puts}
 use Rattle.scanner.specs.Scan.{Scan, Scans}
 use Rattle.scanner.specs.Pieces.{opening_of, piece_by, piece_of}
 use Rattle.scanner.specs.Strings.{turn_of, string_turn, string_piece, string_at, string_of}
-use Rattle.scanner.proofs.Area.{Written, written_none, written_more, written_count, scans_at}
+use Rattle.scanner.proofs.Area.{Written, written_more, written_count, scans_at}
 use Rattle.scanner.proofs.PieceUses.{steady_take_if, steady_escape, steady_piece}
 
 -- the invariant: fuel is left for what is left
@@ -64,22 +65,13 @@ string_now (suc j) rest e r room done depth h q = (
 -- what a turn does
 pub put_full :
     (b to room : ℕ) (done : List ℕ) (depth : ℕ) (left : List ℕ) (peeked : Bool) (on : List ℕ → ℕ → Scan _) → length done ≡ room
-    → record { answer = Err (broken (faulty Limit) done); content = done; left = left; peeked = peeked } ≡ string_turn (Put b to) room done depth left peeked on
+    → record { answer = Err (broken Limit done); content = done; left = left; peeked = peeked } ≡ string_turn (Put b to) room done depth left peeked on
 put_full b to room done depth left peeked on e = sym (cond-true (eqb (length done) room) _ _ (eq-eqb (length done) room e))
 
 pub put_more :
     (b to room : ℕ) (done : List ℕ) (depth : ℕ) (left : List ℕ) (peeked : Bool) (on : List ℕ → ℕ → Scan _) → (length done ≡ room → ⊥)
     → on (done ++ b ∷ []) to ≡ string_turn (Put b to) room done depth left peeked on
 put_more b to room done depth left peeked on e = sym (cond-false (eqb (length done) room) _ _ (ne_eqb (length done) room e))
-
-pub strung_start : {H : Type 0} (m : Model H) (l : Lawful H m) (h : H) (old : List ℕ) → Strung m h h old old 0 0
-strung_start m l h old = record {
-  fuel = suc (length (m.rest h));
-  enough = omega arith;
-  walk = walk_start m l h (λ r. string_at (suc (length (m.rest h))) (length old) [] 0 r (m.ending h));
-  written = written_none old;
-  level = omega arith;
-}
 
 -- a turn that got a piece
 module _
@@ -120,8 +112,8 @@ module _
     level = k.level;
   }
 
-  pub strung_put : (b to : ℕ) → Put b to ≡ turn_of p depth → n < length new → (n ≡ length old → ⊥) → to ≤ depth + 1 → Strung m h x' old (set new n b) (n + 1) to
-  strung_put b to q lt ne lv = record {
+  strung_more : (b to : ℕ) → Put b to ≡ turn_of p depth → n < length new → (n ≡ length old → ⊥) → to ≤ depth + 1 → Strung m h x' old (set new n b) (n + 1) to
+  strung_more b to q lt ne lv = record {
     fuel = ok.0;
     enough = omega (arith, ok.1, strung_fewer);
     walk = walk_on m l piece_of h x (Ok p) x' _ _ steady_piece k.walk y (λ r. string_at ok.0 (length old) (take (n + 1) (set new n b)) to r (m.ending h))
@@ -132,14 +124,22 @@ module _
     level = omega (arith, k.level);
   }
 
+  pub strung_put :
+      (b to i : ℕ) (new' : List ℕ) → Put b to ≡ turn_of p depth → length new ≡ length old → to ≤ depth + 1 → Puts new n b (Ok i) new' → Strung m h x' old new' i to
+  strung_put b to i new' q same lv w = rw (w.1, w.2) (strung_more b to q w.0 (λ e. omega (arith, same, w.0)) lv)
+
   pub strung_done : Done ≡ turn_of p depth → Scans m string_of h old (Ok n) x' new
   strung_done q = scans_at m string_of h old (Ok n) x' new n _ (now_turn Done q ∙ k.walk.on) k.written refl (ap Ok (sym (written_count old new n k.written))) gone
 
-  pub strung_full : (b to : ℕ) → Put b to ≡ turn_of p depth → n ≡ length old → Scans m string_of h old (Err (failure.Fault (faulty Limit) n)) x' new
-  strung_full b to q e =
-      scans_at m string_of h old (Err (failure.Fault (faulty Limit) n)) x' new n _
+  strung_all : (b to : ℕ) → Put b to ≡ turn_of p depth → n ≡ length old → Scans m string_of h old (Err (failure.Fault Limit n)) x' new
+  strung_all b to q e =
+      scans_at m string_of h old (Err (failure.Fault Limit n)) x' new n _
       (put_full b to (length old) (take n new) depth _ _ (λ done depth. string_at ok.0 (length old) done depth (piece_of (m.rest x) (m.ending h)).left (m.ending h)) (written_count old new n k.written ∙ e) ∙ (now_turn (Put b to) q ∙ k.walk.on))
-      k.written refl (ap (λ c. Err (failure.Fault (faulty Limit) c)) (sym (written_count old new n k.written))) gone
+      k.written refl (ap (λ c. Err (failure.Fault Limit c)) (sym (written_count old new n k.written))) gone
+
+  pub strung_full :
+      (b to : ℕ) (f : Failure) (new' : List ℕ) → Put b to ≡ turn_of p depth → length new ≡ length old → Puts new n b (Err f) new' → Scans m string_of h old (Err f) x' new'
+  strung_full b to f new' q same w = rw (w.1, w.2) (strung_all b to q (omega (arith, k.written.within, same, w.0)))
 
 pub strung_err :
     {H : Type 0} (m : Model H) (l : Lawful H m) (h x x' : H) (old new : List ℕ) (n depth : ℕ) (f : Fault)

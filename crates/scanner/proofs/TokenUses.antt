@@ -1,8 +1,7 @@
-use Rattle.std.proofs.Common.{◌≡◌, ℕ, ◌≤◌, Bool, true, false, ltb, List, [], ◌∷◌, ◌++◌, length, take, drop, Ok, Result, sym, refl, ap, ◌∙◌, ap₂, arith}
+use Rattle.std.proofs.Common.{◌≡◌, ℕ, ◌≤◌, Bool, true, false, ltb, List, [], ◌∷◌, length, take, drop, None, Ok, Err, Option, Result, sym, refl, ap, ◌∙◌, ap₂, arith}
 use Rattle.std.proofs.lemmas.List.{length-append, take_at}
 use Rattle.std.proofs.lemmas.Bool.{cond-false, or_parts, ltb-false}
 use Rattle.source.specs.declared.ending.Ending.{Ending}
-use Rattle.source.specs.declared.interface.Next.TheVariants.{Byte}
 use Rattle.source.specs.Model.{Model, first}
 use Rattle.source.specs.Laws.{Lawful}
 use Rattle.source.specs.Gone.{gone_to}
@@ -11,16 +10,15 @@ use Rattle.source.proofs.Calls.{steady_here, steady_take, take_of, look_of, take
 use Rattle.scanner.specs.declared.failure.Failure.{Failure}
 use Rattle.scanner.specs.declared.kinds.Token.{Token}
 use Rattle.scanner.specs.declared.tokens.Start.{Start}
-use Rattle.scanner.specs.declared.tokens.Start.TheVariants as start
 use Rattle.scanner.specs.Scan.{Scan, Scans}
 use Rattle.scanner.specs.Spaces.{skipped}
 use Rattle.scanner.specs.Runs.{run_at, run_of}
 use Rattle.scanner.specs.Takes.{take_if_of}
-use Rattle.scanner.specs.Tokens.{start_of, judged_of, tokened, slash, worded, word_token_of, name_of, hex_token_of, doubled_of, bare, less_by, less_of, unfit, next_by, next_of, token_of}
+use Rattle.scanner.specs.Tokens.{start_of, judged_of, tokened, slash, worded, word_token_of, name_of, hex_token_of, bare, less_by, less_of, unfit, next_by, next_of, token_of}
 use Rattle.scanner.proofs.PieceUses.{steady_take_if}
 use Rattle.scanner.proofs.Scanning.{scans_then, scans_as}
 use Rattle.scanner.proofs.Sound.{count, sound_run}
-use Rattle.scanner.proofs.Steadiness.{SteadyScan, steady_skip, steady_run, steady_hex, steady_doubled, steady_next_token}
+use Rattle.scanner.proofs.Steadiness.{SteadyScan, steady_skip, steady_run, steady_hex, steady_next_token}
 
 -- the bounds of a fit area
 pub fit_bounds : (room : ℕ) → unfit room ≡ false → (128 ≤ room) × (room ≤ 65535)
@@ -37,7 +35,7 @@ first_take : (rest : List ℕ) (e : Ending) → first rest e ≡ (take_of rest e
 first_take [] e = refl
 first_take (b ∷ bs) e = refl
 
-next_at : (room : ℕ) (rest : List ℕ) (e : Ending) (b : ℕ) (k : Start) → Byte b ≡ first rest e → k ≡ start_of b → next_by k room b (take_of rest e).left e ≡ next_of room rest e
+next_at : (room : ℕ) (rest : List ℕ) (e : Ending) (b : ℕ) (k : Option Start) → Ok b ≡ first rest e → k ≡ start_of b → next_by k room b (take_of rest e).left e ≡ next_of room rest e
 next_at room rest e b k p q =
     ap (λ k. next_by k room b (take_of rest e).left e) q
     ∙ sym (ap (λ r. next_of room r e) (take_first rest e b (p ∙ first_take rest e)))
@@ -51,7 +49,7 @@ scans_bare m f h old r h' x = record { answer = x.answer; filled = refl; after =
 module _ {H : Type 0} (m : Model H) (l : Lawful H m) (h h₁ h₂ : H) (old new : List ℕ) where
   -- behind one / or two
   pub name_run :
-      (b : Bool) (r : Result ℕ Failure) (r₂ : Result Token Failure) → Reads m (take_if_of 47) h b h₁ → Scans m run_of h₁ old r h₂ new → r₂ ≡ tokened (slash b) r
+      (b : Result Bool Ending) (r : Result ℕ Failure) (r₂ : Result Token Failure) → Reads m (take_if_of 47) h b h₁ → Scans m run_of h₁ old r h₂ new → r₂ ≡ tokened (slash b) r
       → Scans m name_of h old r₂ h₂ new
   name_run b r r₂ x y is =
       let z = scans_then m l (take_if_of 47) h b h₁ run_of old r h₂ new (steady_take_if 47 _ _) steady_run x y in
@@ -60,14 +58,14 @@ module _ {H : Type 0} (m : Model H) (l : Lawful H m) (h h₁ h₂ : H) (old new 
       (is ∙ ap₂ (λ b r. tokened (slash b) r) x.answer z.answer) refl refl refl
 
   -- a < with no < behind it
-  pub less_hex : (r : Result Token Failure) → Reads m (doubled_of 60) h (Ok false) h₁ → Scans m hex_token_of h₁ old r h₂ new → Scans m less_of h old r h₂ new
+  pub less_hex : (r : Result Token Failure) → Reads m (take_if_of 60) h (Ok false) h₁ → Scans m hex_token_of h₁ old r h₂ new → Scans m less_of h old r h₂ new
   less_hex r x y =
       let rest = m.rest h in
       let e = m.ending h in
-      let z = scans_then m l (doubled_of 60) h (Ok false) h₁ hex_token_of old r h₂ new (steady_doubled 60 _ _) steady_hex x y in
-      scans_as m l (λ room rest e. hex_token_of room (doubled_of 60 rest e).left e) h old r h₂ new less_of r
-      (hex_token_of (length old) (doubled_of 60 rest e).left e) z
-      (ap (λ a. less_by a (doubled_of 60 rest e).left (doubled_of 60 rest e).peeked (hex_token_of (length old) (doubled_of 60 rest e).left e)) x.answer)
+      let z = scans_then m l (take_if_of 60) h (Ok false) h₁ hex_token_of old r h₂ new (steady_take_if 60 _ _) steady_hex x y in
+      scans_as m l (λ room rest e. hex_token_of room (take_if_of 60 rest e).left e) h old r h₂ new less_of r
+      (hex_token_of (length old) (take_if_of 60 rest e).left e) z
+      (ap (λ a. less_by a (take_if_of 60 rest e).left (take_if_of 60 rest e).peeked (hex_token_of (length old) (take_if_of 60 rest e).left e)) x.answer)
       z.answer refl refl refl
 
   -- behind white bytes and comments
@@ -80,46 +78,28 @@ module _ {H : Type 0} (m : Model H) (l : Lawful H m) (h h₁ h₂ : H) (old new 
       (sym (cond-false (unfit (length old)) _ _ fit))
       z.answer refl refl refl
 
-  module _ (b : ℕ) (p : Byte b ≡ first (m.rest h) (m.ending h)) (t : h₁ ≡ m.looked h) where
-    pub next_run : (r : Result Token Failure) → start.Run ≡ start_of b → Scans m word_token_of h₁ old r h₂ new → Scans m next_of h old r h₂ new
+  module _ (b : ℕ) (p : Ok b ≡ first (m.rest h) (m.ending h)) (t : h₁ ≡ m.looked h) where
+    pub next_run : (r : Result Token Failure) → None ≡ start_of b → Scans m word_token_of h₁ old r h₂ new → Scans m next_of h old r h₂ new
     next_run r q y =
-        let z = scans_then m l look_of h (Byte b) h₁ word_token_of old r h₂ new (steady_here _) steady_run (reads_look m l h (Byte b) h₁ p t) y in
+        let z = scans_then m l look_of h (Ok b) h₁ word_token_of old r h₂ new (steady_here _) steady_run (reads_look m l h (Ok b) h₁ p t) y in
         let e : word_token_of (length old) (m.rest h) (m.ending h) ≡ word_token_of (length old) (b ∷ (take_of (m.rest h) (m.ending h)).left) (m.ending h)
         = ap (λ r. word_token_of (length old) r (m.ending h)) (take_first (m.rest h) (m.ending h) b (p ∙ first_take (m.rest h) (m.ending h))) in
         scans_as m l (λ room rest e. word_token_of room rest e) h old r h₂ new next_of r (word_token_of (length old) (m.rest h) (m.ending h))
-        z (e ∙ next_at (length old) (m.rest h) (m.ending h) b start.Run p q) z.answer refl refl refl
+        z (e ∙ next_at (length old) (m.rest h) (m.ending h) b None p q) z.answer refl refl refl
 
     -- a start whose byte is taken, and then a call
     pub next_behind :
-        (h₃ : H) → h₂ ≡ m.taken h₁ → (k : Start) → k ≡ start_of b → (g : ℕ → List ℕ → Ending → Scan (Result Token Failure))
+        (h₃ : H) → h₂ ≡ m.taken h₁ → (k : Option Start) → k ≡ start_of b → (g : ℕ → List ℕ → Ending → Scan (Result Token Failure))
         → ((room : ℕ) (rest : List ℕ) (e : Ending) → SteadyScan rest (g room rest e))
         → ((room : ℕ) (rest : List ℕ) (e : Ending) → g room rest e ≡ next_by k room b rest e)
         → (r : Result Token Failure) → Scans m g h₂ old r h₃ new → Scans m next_of h old r h₃ new
     next_behind h₃ u k q g steady same r y =
-        let two = reads_take m l h (Byte b) h₂ p (u ∙ (ap m.taken t ∙ l.looked_taken h)) in
-        let z = scans_then m l take_of h (Byte b) h₂ g old r h₃ new (steady_take _ _) steady two y in
+        let two = reads_take m l h (Ok b) h₂ p (u ∙ (ap m.taken t ∙ l.looked_taken h)) in
+        let z = scans_then m l take_of h (Ok b) h₂ g old r h₃ new (steady_take _ _) steady two y in
         scans_as m l (λ room rest e. g room (take_of rest e).left e) h old r h₃ new next_of r
         (g (length old) (take_of (m.rest h) (m.ending h)).left (m.ending h)) z
         (same (length old) (take_of (m.rest h) (m.ending h)).left (m.ending h) ∙ next_at (length old) (m.rest h) (m.ending h) b k p q)
         z.answer refl refl refl
-
-    -- a start that is a whole token
-    pub next_bare :
-        h₂ ≡ m.taken h₁ → (k : Start) → k ≡ start_of b → (r : Result Token Failure)
-        → ((room : ℕ) (rest : List ℕ) (e : Ending) → bare r rest false ≡ next_by k room b rest e) → Scans m next_of h old r h₂ old
-    next_bare u k q r same =
-        let two = reads_take m l h (Byte b) h₂ p (u ∙ (ap m.taken t ∙ l.looked_taken h)) in
-        let rest = (take_of (m.rest h) (m.ending h)).left in
-        let e = same (length old) rest (m.ending h) ∙ next_at (length old) (m.rest h) (m.ending h) b k p q in
-        record {
-          answer = ap (λ (s : Scan _). s.answer) e;
-          filled = ap (λ (s : Scan _). s.content ++ drop (length s.content) old) e;
-          after = two.after ∙ (ap (gone_to m h rest) (taken_not (m.rest h) (m.ending h) b two.answer) ∙ ap (λ (s : Scan _). gone_to m h s.left s.peeked) e);
-        }
-      where
-        taken_not : (rest : List ℕ) (e : Ending) (b : ℕ) → Byte b ≡ (take_of rest e).answer → (take_of rest e).peeked ≡ false
-        taken_not [] e b p = let z : ◌≡◌ {A = ℕ} 0 1 = cc in let no_way : ⊥ = omega arith in absurd no_way
-        taken_not (x ∷ rest) e b p = refl
 
 -- a run that is read says how long it is
 run_counts : (rest : List ℕ) (n : ℕ) → Ok n ≡ (run_at [] rest).answer → n ≡ length (run_at [] rest).content
@@ -140,3 +120,8 @@ module _ {H : Type 0} (m : Model H) (h h₁ : H) (old new : List ℕ) (n : ℕ) 
   word_judged l r e =
       scans_as m l run_of h old (Ok n) h₁ new word_token_of r (word_token_of (length old) (m.rest h) (m.ending h)) y refl
       (e ∙ (ap judged_of word_content ∙ ap (λ a. worded a (run_at [] (m.rest h)).content) y.answer)) refl refl refl
+
+-- a run that is too long is no token
+pub word_stopped :
+    {H : Type 0} (m : Model H) (h h₁ : H) (old new : List ℕ) (f : Failure) → Scans m run_of h old (Err f) h₁ new → Scans m word_token_of h old (Err f) h₁ new
+word_stopped m h h₁ old new f y = record { answer = ap (λ r. worded r (run_at [] (m.rest h)).content) y.answer; filled = y.filled; after = y.after }

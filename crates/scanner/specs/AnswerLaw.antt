@@ -6,6 +6,7 @@ use Rattle.scanner.specs.declared.failure.Failure.TheVariants.{Area, Fault}
 use Rattle.scanner.specs.declared.kinds.Kind.{Kind}
 use Rattle.scanner.specs.declared.kinds.Kind.TheVariants as kind
 use Rattle.scanner.specs.declared.kinds.Token.{Token}
+use Rattle.scanner.specs.Kinds.{value_of}
 use Rattle.scanner.specs.Spaces.{skipped}
 use Rattle.scanner.specs.Tokens.{ended_token, bare, unfit, token_of}
 
@@ -22,7 +23,7 @@ InRange (negsuc v) = v ≤ 2147483647
 
 -- an integer's value is in range, and that of any other kind is 0
 abbrev pub KindValue : Kind → ℤ → Type 0
-KindValue kind.Integer v = InRange v
+KindValue (kind.Integer i) v = InRange v
 KindValue kind.End v = v ≡ pos 0
 KindValue kind.Name v = v ≡ pos 0
 KindValue kind.Literal v = v ≡ pos 0
@@ -38,7 +39,7 @@ KindValue kind.OpenDictionary v = v ≡ pos 0
 KindValue kind.CloseDictionary v = v ≡ pos 0
 
 abbrev pub Valued : Result Token Failure → Type 0
-Valued (Ok t) = KindValue t.kind t.value
+Valued (Ok t) = KindValue t.kind (value_of t.kind)
 Valued (Err f) = Unit {0}
 
 -- what holds of each answer

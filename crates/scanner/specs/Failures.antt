@@ -6,7 +6,7 @@ use Rattle.scanner.specs.declared.failure.Failure.TheVariants.{Area, Fault}
 
 abbrev pub failure_number : Failure → ℕ
 failure_number Area = 6
-failure_number (Fault f n) = fault_number f.cause
+failure_number (Fault f n) = fault_number f
 
 -- a fault that leaves the content so far, with its count
 abbrev pub broken : Flaw → List ℕ → Failure

@@ -1,6 +1,8 @@
 pub mod Classes
+pub mod Kinds
 pub mod Failures
 pub mod Scan
+pub mod Puts
 pub mod Spaces
 pub mod Runs
 pub mod Digits
@@ -10,7 +12,6 @@ pub mod Takes
 pub mod Pieces
 pub mod Strings
 pub mod HexStrings
-pub mod Plain
 pub mod Tokens
 pub mod RunLaw
 pub mod StringLaw

@@ -1,7 +1,9 @@
-use Rattle.std.specs.Prelude.{ℕ, ◌-◌, Bool, true, false, cond, ◌&&◌, ◌||◌, List, [], ◌∷◌, length, take, drop, ℤ, pos, neg_ℤ, Some, None, Option, ◌==◌, nat_eq, nat_le, nat_lt, slice_index}
+use Rattle.std.specs.Prelude.{ℕ, ◌-◌, Bool, true, false, cond, ◌&&◌, ◌||◌, List, [], ◌∷◌, length, take, drop, ℤ, pos, neg_ℤ, Some, None, Ok, Err, Option, Result, ◌==◌, nat_eq, nat_le, nat_lt, slice_index}
 use Rattle.source.specs.Bytes.{digit_value}
-use Rattle.scanner.specs.declared.words.Word.{Word}
-use Rattle.scanner.specs.declared.words.Word.TheVariants.{Integer, Real, Name, TooLarge}
+use Rattle.source.specs.declared.fault.Fault.{Fault}
+use Rattle.source.specs.declared.fault.Fault.TheVariants.{RadixRange}
+use Rattle.scanner.specs.declared.kinds.Kind.{Kind}
+use Rattle.scanner.specs.declared.kinds.Kind.TheVariants.{Integer, Real, Name}
 use Rattle.scanner.specs.Digits.{digits_of}
 
 -- + and -
@@ -35,20 +37,20 @@ abbrev pub integer_of : List ℕ → Option ℤ
 integer_of s = signed_value (negative s) (digits_of 10 (behind_sign s))
 
 -- 32 bits read as two's complement; a value that has more is too large
-abbrev pub twos_of : ℕ → Word
-twos_of v = cond (nat_le v 2147483647) (Integer (pos v)) (cond (nat_le v 4294967295) (Integer (neg_ℤ (pos (4294967296 - v)))) TooLarge)
+abbrev pub twos_of : ℕ → Result Kind Fault
+twos_of v = cond (nat_le v 2147483647) (Ok (Integer (pos v))) (cond (nat_le v 4294967295) (Ok (Integer (neg_ℤ (pos (4294967296 - v))))) (Err RadixRange))
 
-abbrev pub radix_value : Option ℕ → Option Word
+abbrev pub radix_value : Option ℕ → Option (Result Kind Fault)
 radix_value None = None
 radix_value (Some v) = Some (twos_of v)
 
 -- digits in the base, if the base is from 2 to 36
-abbrev pub radix_in : Option ℕ → List ℕ → Option Word
+abbrev pub radix_in : Option ℕ → List ℕ → Option (Result Kind Fault)
 radix_in None s = None
 radix_in (Some base) s = cond (nat_le 2 base && nat_le base 36) (radix_value (digits_of base s)) None
 
 -- a radix number: a base of one or two decimal digits, #, and one or more digits below the base
-abbrev pub radix_of : List ℕ → Option Word
+abbrev pub radix_of : List ℕ → Option (Result Kind Fault)
 radix_of s =
     cond (slice_index s 1 == 35) (radix_in (digits_of 10 (take 1 s)) (drop 2 s))
     (cond (slice_index s 2 == 35) (radix_in (digits_of 10 (take 2 s)) (drop 3 s)) None)
@@ -84,14 +86,14 @@ real_behind_sign s =
 abbrev pub real_of : List ℕ → Bool
 real_of s = real_behind_sign (behind_sign s)
 
-abbrev pub integer_or : Option ℤ → Word → Word
+abbrev pub integer_or : Option ℤ → Result Kind Fault → Result Kind Fault
 integer_or None w = w
-integer_or (Some v) w = Integer v
+integer_or (Some v) w = Ok (Integer v)
 
-abbrev pub radix_or : Option Word → Word → Word
+abbrev pub radix_or : Option (Result Kind Fault) → Result Kind Fault → Result Kind Fault
 radix_or None w = w
 radix_or (Some r) w = r
 
 -- what a run is: an integer, a radix number, a real, or else a name
-abbrev pub word_of : List ℕ → Word
-word_of s = integer_or (integer_of s) (radix_or (radix_of s) (cond (real_of s) Real Name))
+abbrev pub word_of : List ℕ → Result Kind Fault
+word_of s = integer_or (integer_of s) (radix_or (radix_of s) (cond (real_of s) (Ok Real) (Ok Name)))

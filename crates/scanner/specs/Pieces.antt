@@ -8,12 +8,9 @@ use Rattle.scanner.specs.declared.pieces.Escape.{Escape}
 use Rattle.scanner.specs.declared.pieces.Escape.TheVariants as escape
 use Rattle.scanner.specs.declared.pieces.Opening.{Opening}
 use Rattle.scanner.specs.declared.pieces.Opening.TheVariants as opening
+use Rattle.source.specs.Bytes.{digit_of}
 use Rattle.source.specs.Numbers.{unended}
 use Rattle.scanner.specs.Takes.{take_if_of, with_answer}
-
--- 0 to 7
-abbrev pub octal_digit : ℕ → Option ℕ
-octal_digit b = cond (nat_le b 47) None (cond (nat_le b 55) (Some (b - 48)) None)
 
 -- what the byte b begins behind a backslash: a line end; n r t b f for 10 13 9 8 12; an octal digit; any other byte
 -- stands for itself
@@ -48,10 +45,10 @@ abbrev pub octal_by : Option ℕ → ℕ → List ℕ → Read (Option ℕ)
 octal_by None b bs = record { answer = None; left = b ∷ bs; peeked = true }
 octal_by (Some d) b bs = record { answer = Some d; left = bs; peeked = false }
 
--- the next byte, taken if it is an octal digit
+-- the next byte, taken if it is an octal digit, 0 to 7
 abbrev pub octal_of : List ℕ → Ending → Read (Option ℕ)
 octal_of [] e = record { answer = None; left = []; peeked = true }
-octal_of (b ∷ bs) e = octal_by (octal_digit b) b bs
+octal_of (b ∷ bs) e = octal_by (digit_of 8 b) b bs
 
 abbrev pub number_last : ℕ → ℕ → Option ℕ → ℕ
 number_last d x None = 8 * d + x

@@ -1,7 +1,6 @@
 use Rattle.std.specs.Prelude.{◌≡◌, ℕ, ◌<◌, ◌≤◌, Bool, false, not, List, [], ◌∷◌, length, take, drop, Ok, Err}
-use Rattle.source.specs.declared.fault.Cause.TheVariants.{Limit}
+use Rattle.source.specs.declared.fault.Fault.TheVariants.{Limit}
 use Rattle.source.specs.Bytes.{white}
-use Rattle.source.specs.Numbers.{faulty}
 use Rattle.scanner.specs.declared.class.Class.{Class}
 use Rattle.scanner.specs.declared.class.Class.TheVariants.{White, Special, Regular}
 use Rattle.scanner.specs.Classes.{class_of}
@@ -40,4 +39,4 @@ pub record RunLaw : Type 0 where
       }
   pub too_long :
       (rest : List ℕ) → 127 < length (front_of rest)
-      → run_at [] rest ≡ record { answer = Err (broken (faulty Limit) (take 127 rest)); content = take 127 rest; left = drop 128 rest; peeked = false }
+      → run_at [] rest ≡ record { answer = Err (broken Limit (take 127 rest)); content = take 127 rest; left = drop 128 rest; peeked = false }

@@ -1,7 +1,6 @@
 use Rattle.std.specs.Prelude.{ℕ, true, false, cond, List, [], ◌∷◌, ◌++◌, length, Ok, Err, Result, ◌==◌}
 use Rattle.source.specs.declared.ending.Ending.{Ending}
-use Rattle.source.specs.declared.fault.Cause.TheVariants.{Limit}
-use Rattle.source.specs.Numbers.{faulty}
+use Rattle.source.specs.declared.fault.Fault.TheVariants.{Limit}
 use Rattle.scanner.specs.declared.failure.Failure.{Failure}
 use Rattle.scanner.specs.declared.class.Class.{Class}
 use Rattle.scanner.specs.declared.class.Class.TheVariants.{White, Special, Regular}
@@ -15,7 +14,7 @@ abbrev pub run_by : Class → List ℕ → ℕ → List ℕ → Scan (Result ℕ
 run_by Special done b bs on = record { answer = Ok (length done); content = done; left = b ∷ bs; peeked = true }
 run_by White done b bs on = record { answer = Ok (length done); content = done; left = bs; peeked = false }
 run_by Regular done b bs on =
-    cond (length done == 127) (record { answer = Err (broken (faulty Limit) done); content = done; left = bs; peeked = false }) on
+    cond (length done == 127) (record { answer = Err (broken Limit done); content = done; left = bs; peeked = false }) on
 
 -- a run, of which the bytes `done` were read
 abbrev pub run_at : List ℕ → List ℕ → Scan (Result ℕ Failure)

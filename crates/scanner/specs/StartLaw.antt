@@ -4,7 +4,7 @@ use Rattle.scanner.specs.declared.class.Class.TheVariants.{Regular}
 use Rattle.scanner.specs.declared.kinds.Kind.TheVariants.{Literal, Immediate, OpenArray, CloseArray, OpenProcedure, CloseProcedure, OpenDictionary, CloseDictionary}
 use Rattle.scanner.specs.Classes.{class_of}
 use Rattle.scanner.specs.Runs.{run_at}
-use Rattle.scanner.specs.Plain.{plain}
+use Rattle.scanner.specs.Kinds.{token}
 use Rattle.scanner.specs.Tokens.{as_word, as_token, bare, unfit, token_of}
 
 -- how tokens begin: a regular byte begins a run, which is a number or an executable name; a run, perhaps empty, behind
@@ -16,11 +16,11 @@ pub record StartLaw : Type 0 where
       (room b : ℕ) (bs : List ℕ) (e : Ending) → unfit room ≡ false → (b ≢ 47) → token_of room (47 ∷ b ∷ bs) e ≡ as_token Literal (run_at [] (b ∷ bs))
   pub immediates :
       (room : ℕ) (bs : List ℕ) (e : Ending) → unfit room ≡ false → token_of room (47 ∷ 47 ∷ bs) e ≡ as_token Immediate (run_at [] bs)
-  pub open_array : (room : ℕ) (bs : List ℕ) (e : Ending) → unfit room ≡ false → token_of room (91 ∷ bs) e ≡ bare (Ok (plain OpenArray 0)) bs false
-  pub close_array : (room : ℕ) (bs : List ℕ) (e : Ending) → unfit room ≡ false → token_of room (93 ∷ bs) e ≡ bare (Ok (plain CloseArray 0)) bs false
-  pub open_procedure : (room : ℕ) (bs : List ℕ) (e : Ending) → unfit room ≡ false → token_of room (123 ∷ bs) e ≡ bare (Ok (plain OpenProcedure 0)) bs false
-  pub close_procedure : (room : ℕ) (bs : List ℕ) (e : Ending) → unfit room ≡ false → token_of room (125 ∷ bs) e ≡ bare (Ok (plain CloseProcedure 0)) bs false
+  pub open_array : (room : ℕ) (bs : List ℕ) (e : Ending) → unfit room ≡ false → token_of room (91 ∷ bs) e ≡ bare (Ok (token OpenArray 0)) bs false
+  pub close_array : (room : ℕ) (bs : List ℕ) (e : Ending) → unfit room ≡ false → token_of room (93 ∷ bs) e ≡ bare (Ok (token CloseArray 0)) bs false
+  pub open_procedure : (room : ℕ) (bs : List ℕ) (e : Ending) → unfit room ≡ false → token_of room (123 ∷ bs) e ≡ bare (Ok (token OpenProcedure 0)) bs false
+  pub close_procedure : (room : ℕ) (bs : List ℕ) (e : Ending) → unfit room ≡ false → token_of room (125 ∷ bs) e ≡ bare (Ok (token CloseProcedure 0)) bs false
   pub open_dictionary :
-      (room : ℕ) (bs : List ℕ) (e : Ending) → unfit room ≡ false → token_of room (60 ∷ 60 ∷ bs) e ≡ bare (Ok (plain OpenDictionary 0)) bs false
+      (room : ℕ) (bs : List ℕ) (e : Ending) → unfit room ≡ false → token_of room (60 ∷ 60 ∷ bs) e ≡ bare (Ok (token OpenDictionary 0)) bs false
   pub close_dictionary :
-      (room : ℕ) (bs : List ℕ) (e : Ending) → unfit room ≡ false → token_of room (62 ∷ 62 ∷ bs) e ≡ bare (Ok (plain CloseDictionary 0)) bs false
+      (room : ℕ) (bs : List ℕ) (e : Ending) → unfit room ≡ false → token_of room (62 ∷ 62 ∷ bs) e ≡ bare (Ok (token CloseDictionary 0)) bs false

@@ -2,7 +2,7 @@ use Rattle.std.specs.Prelude.{◌≡◌, ℕ, ◌≤◌, false, cond, List, [], 
 use Rattle.std.specs.List.{flat_map}
 use Rattle.source.specs.declared.ending.Ending.{Ending}
 use Rattle.scanner.specs.declared.kinds.Kind.TheVariants.{String}
-use Rattle.scanner.specs.Plain.{plain}
+use Rattle.scanner.specs.Kinds.{token}
 use Rattle.scanner.specs.Tokens.{unfit, token_of}
 
 -- a byte as it is written in a string: parentheses and backslashes with a backslash before them, the line ends 10 and
@@ -20,4 +20,4 @@ abbrev pub StringLaw : Type 0
 StringLaw =
     (room : ℕ) (content behind : List ℕ) (e : Ending) → unfit room ≡ false → length content ≤ room
     → token_of room (40 ∷ (flat_map spelled content ++ 41 ∷ behind)) e
-    ≡ record { answer = Ok (plain String (length content)); content = content; left = behind; peeked = false }
+    ≡ record { answer = Ok (token String (length content)); content = content; left = behind; peeked = false }

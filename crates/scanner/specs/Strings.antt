@@ -1,8 +1,8 @@
 use Rattle.std.specs.Prelude.{ℕ, zero, suc, ◌+◌, ◌-◌, ◌≤◌, Bool, true, cond, List, [], ◌∷◌, ◌++◌, length, Ok, Err, Result, ◌==◌}
 use Rattle.source.specs.declared.ending.Ending.{Ending}
-use Rattle.source.specs.declared.fault.Cause.TheVariants.{Limit}
+use Rattle.source.specs.declared.fault.Fault.TheVariants.{Limit}
 use Rattle.source.specs.declared.fault.Fault.{Fault}
-use Rattle.source.specs.Numbers.{faulty, unended}
+use Rattle.source.specs.Numbers.{unended}
 use Rattle.scanner.specs.declared.failure.Failure.{Failure}
 use Rattle.scanner.specs.declared.pieces.Piece.{Piece}
 use Rattle.scanner.specs.declared.pieces.Piece.TheVariants.{Open, Close, Plain, Nothing}
@@ -30,7 +30,7 @@ abbrev pub string_turn : Turn → ℕ → List ℕ → ℕ → List ℕ → Bool
 string_turn Done room done depth left peeked on = record { answer = Ok (length done); content = done; left = left; peeked = peeked }
 string_turn Pass room done depth left peeked on = on done depth
 string_turn (Put b to) room done depth left peeked on =
-    cond (length done == room) (record { answer = Err (broken (faulty Limit) done); content = done; left = left; peeked = peeked })
+    cond (length done == room) (record { answer = Err (broken Limit done); content = done; left = left; peeked = peeked })
     (on (done ++ b ∷ []) to)
 
 abbrev pub string_piece : Result Piece Fault → ℕ → List ℕ → ℕ → List ℕ → Bool → (List ℕ → ℕ → Scan (Result ℕ Failure)) → Scan (Result ℕ Failure)

@@ -9,13 +9,13 @@ abbrev pub byte_of : List ℕ → Ending → Read (Result ℕ Fault)
 byte_of [] e = record { answer = Err (unended e); left = []; peeked = true }
 byte_of (b ∷ bs) e = record { answer = Ok b; left = bs; peeked = false }
 
-abbrev pub take_if_by : Bool → ℕ → List ℕ → Read Bool
-take_if_by true b bs = record { answer = true; left = bs; peeked = false }
-take_if_by false b bs = record { answer = false; left = b ∷ bs; peeked = true }
+abbrev pub take_if_by : Bool → ℕ → List ℕ → Read (Result Bool Ending)
+take_if_by true b bs = record { answer = Ok true; left = bs; peeked = false }
+take_if_by false b bs = record { answer = Ok false; left = b ∷ bs; peeked = true }
 
 -- the next byte is looked at, and taken if it is `wanted`
-abbrev pub take_if_of : ℕ → List ℕ → Ending → Read Bool
-take_if_of wanted [] e = record { answer = false; left = []; peeked = true }
+abbrev pub take_if_of : ℕ → List ℕ → Ending → Read (Result Bool Ending)
+take_if_of wanted [] e = record { answer = Err e; left = []; peeked = true }
 take_if_of wanted (b ∷ bs) e = take_if_by (b == wanted) b bs
 
 -- the same with another answer

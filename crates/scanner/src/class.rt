@@ -4,7 +4,7 @@ ghost use Rattle.scanner.specs.Classes.{class_of};
 use source::is_white;
 
 // What a byte is to the scanner.
-#[derive(Clone, Copy)]
+#[derive(Clone, Copy, Debug, PartialEq, Eq)]
 pub enum Class {
     White,
     Special,

@@ -2,7 +2,7 @@ ghost use Rattle.std.specs.Prelude.{◌≡◌, ◌≤◌};
 ghost use Rattle.scanner.specs.Digits.{digits_of};
 ghost use Rattle.scanner.specs.Capped.{capped};
 
-use source::digit_value;
+use source::digit;
 
 // No number of the language is larger, so larger values are all read as this one.
 const CAP: u64 = 4294967296;
@@ -18,10 +18,7 @@ pub(crate) fn digits(s: &[u8], base: u8) -> Option<u64>
     }
     let mut v: u64 = 0;
     for b in s {
-        let d = digit_value(*b);
-        if d >= base {
-            return None;
-        }
+        let d = digit(*b, base)?;
         v = (v * u64::from(base) + u64::from(d)).min(CAP);
     }
     Some(v)

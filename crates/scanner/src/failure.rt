@@ -1,11 +1,10 @@
 ghost use Rattle.std.specs.Prelude.{◌≡◌};
-ghost use Rattle.source.specs.Numbers.{faulty};
 ghost use Rattle.scanner.specs.Failures.{failure_number};
 
-use source::{Cause, Fault};
+use source::Fault;
 
 // Why a token call gave no token.
-#[derive(Clone, Copy)]
+#[derive(Clone, Copy, Debug, PartialEq, Eq)]
 pub enum Failure {
     // refused: the area is under 128 or over 65,535 bytes, and nothing was changed
     Area,
@@ -14,13 +13,6 @@ pub enum Failure {
 }
 
 impl Failure {
-    // A fault that is no damage, with n bytes of content.
-    pub(crate) fn of(cause: Cause, n: usize) -> Failure
-        ensures { result ≡ Failure.Fault (faulty cause) n }
-    {
-        Failure::Fault(Fault::new(cause), n)
-    }
-
     // 6 for a refusal, else the fault's number.
     pub fn number(self) -> u8
         ensures { result ≡ failure_number self }

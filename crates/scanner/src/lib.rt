@@ -2,6 +2,7 @@
 
 mod bytes;
 mod class;
+mod content;
 mod digits;
 mod failure;
 mod hex;

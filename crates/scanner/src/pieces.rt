@@ -1,12 +1,12 @@
 ghost use Rattle.std.specs.Prelude.{◌≡◌, ◌<◌, IfSome};
 ghost use Rattle.source.specs.Reads.{Reads};
-ghost use Rattle.scanner.specs.Pieces.{octal_digit, octal_of, number_of, meaning_of, opening_of, escape_of, piece_of, OctalMeaning};
+ghost use Rattle.scanner.specs.Pieces.{octal_of, number_of, meaning_of, opening_of, escape_of, piece_of, OctalMeaning};
 
 use crate::bytes::{next_byte, take_if};
-use source::{Fault, Next, Source};
+use source::{Fault, Source, digit};
 
 // A piece of a string.
-#[derive(Clone, Copy)]
+#[derive(Clone, Copy, Debug, PartialEq, Eq)]
 pub enum Piece {
     // `(`
     Open,
@@ -19,7 +19,7 @@ pub enum Piece {
 }
 
 // What the byte behind a backslash begins.
-#[derive(Clone, Copy)]
+#[derive(Clone, Copy, Debug, PartialEq, Eq)]
 pub enum Escape {
     // it stands for this byte
     Stands(u8),
@@ -32,23 +32,13 @@ pub enum Escape {
 }
 
 // What a byte of a string begins.
-#[derive(Clone, Copy)]
+#[derive(Clone, Copy, Debug, PartialEq, Eq)]
 pub enum Opening {
     Open,
     Close,
     Escape,
     Return,
     Plain,
-}
-
-fn octal_digit(b: u8) -> Option<u8>
-    ensures is { result ≡ octal_digit b }
-    ensures small { IfSome result (λ d. d < 8) }
-{
-    match b {
-        b'0'..=b'7' => Some(b - b'0'),
-        _ => None,
-    }
 }
 
 fn meaning_of(b: u8) -> Escape
@@ -85,17 +75,9 @@ fn octal<S: Source>(source: &mut S) -> Option<u8>
     ensures reads { Reads S.Source.model octal_of (S.Source.held source.old) result (S.Source.held source.new) }
     ensures small { IfSome result (λ d. d < 8) }
 {
-    let b = match source.look() {
-        Next::End(_) => return None,
-        Next::Byte(b) => b,
-    };
-    match octal_digit(b) {
-        None => None,
-        Some(d) => {
-            source.take();
-            Some(d)
-        }
-    }
+    let d = digit(source.look().ok()?, 8)?;
+    let _ = source.take();
+    Some(d)
 }
 
 // The byte of an octal number of one to three digits, whose first is d; of the value the last eight bits.
@@ -103,14 +85,13 @@ fn octal_number<S: Source>(source: &mut S, d: u8) -> u8
     requires { d < 8 }
     ensures { Reads S.Source.model (number_of d) (S.Source.held source.old) result (S.Source.held source.new) }
 {
-    let second = match octal(source) {
-        None => return d,
-        Some(x) => x,
+    let Some(second) = octal(source) else {
+        return d
     };
-    match octal(source) {
-        None => 8 * d + second,
-        Some(third) => ((64 * u16::from(d) + 8 * u16::from(second) + u16::from(third)) % 256) as u8,
-    }
+    let Some(third) = octal(source) else {
+        return 8 * d + second
+    };
+    ((64 * u16::from(d) + 8 * u16::from(second) + u16::from(third)) % 256) as u8
 }
 
 // What stands behind a backslash.
@@ -122,7 +103,7 @@ fn escaped<S: Source>(source: &mut S) -> Result<Piece, Fault>
         Escape::Stands(v) => Ok(Piece::Plain(v)),
         Escape::Feed => Ok(Piece::Nothing),
         Escape::Return => {
-            take_if(source, 10);
+            let _ = take_if(source, 10);
             Ok(Piece::Nothing)
         }
         Escape::Octal(d) => Ok(Piece::Plain(octal_number(source, d))),
@@ -140,7 +121,7 @@ pub(crate) fn next_piece<S: Source>(source: &mut S) -> Result<Piece, Fault>
         Opening::Plain => Ok(Piece::Plain(b)),
         Opening::Escape => escaped(source),
         Opening::Return => {
-            take_if(source, 10);
+            let _ = take_if(source, 10);
             Ok(Piece::Plain(10))
         }
     }

@@ -1,29 +1,26 @@
 ghost use Rattle.std.specs.Prelude.{◌≡◌};
-ghost use Rattle.scanner.specs.Numbers.{behind_digits, behind_point, only_digits, power, exponent, real_of};
+ghost use Rattle.scanner.specs.Numbers.{behind_digits, behind_point, only_digits, exponent, real_of};
 
 use crate::integers::behind_sign;
-use source::digit_value;
 
 // What stands behind the decimal digits at the start.
 fn behind_digits(s: &[u8]) -> &[u8]
     ensures { result.now ≡ behind_digits s.now }
 {
-    for (i, b) in s.iter().enumerate() {
-        if digit_value(*b) >= 10 {
-            return &s[i..];
-        }
+    let mut rest = s;
+    while let [b'0'..=b'9', behind @ ..] = rest {
+        rest = behind;
     }
-    &s[s.len()..]
+    rest
 }
 
-// What stands behind an optional point.
+// What stands behind an optional point. As `behind_sign`, but by another pattern, which no parameter can be.
 fn behind_point(s: &[u8]) -> &[u8]
     ensures { result.now ≡ behind_point s.now }
 {
-    if !s.is_empty() && s[0] == b'.' {
-        &s[1..]
-    } else {
-        s
+    match s {
+        [b'.', rest @ ..] => rest,
+        _ => s,
     }
 }
 
@@ -34,20 +31,15 @@ fn is_digits(s: &[u8]) -> bool
     !s.is_empty() && behind_digits(s).is_empty()
 }
 
-fn is_power(b: u8) -> bool
-    ensures { result ≡ power b }
-{
-    b == b'e' || b == b'E'
-}
-
 // Nothing, or `e` or `E`, an optional sign and digits.
 fn is_exponent(s: &[u8]) -> bool
     ensures { result ≡ exponent s.now }
 {
-    if s.is_empty() {
-        return true;
+    match s {
+        [] => true,
+        [b'e' | b'E', rest @ ..] => is_digits(behind_sign(rest)),
+        _ => false,
     }
-    is_power(s[0]) && is_digits(behind_sign(&s[1..]))
 }
 
 // A real: an optional sign, digits, at most one point, at least one digit, and an optional exponent.

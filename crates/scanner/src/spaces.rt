@@ -2,14 +2,14 @@ ghost use Rattle.std.specs.Prelude.{◌≡◌, true, false};
 ghost use Rattle.source.specs.Gone.{gone_to};
 ghost use Rattle.scanner.specs.Spaces.{passes, skipped};
 
-use source::{Next, Source, is_white};
+use source::{Source, is_white};
 
 // Whether a comment is open behind the byte b, or None where b is not passed over.
 fn passing(comment: bool, b: u8) -> Option<bool>
     ensures { result ≡ passes comment b }
 {
     if comment {
-        Some(b != 10 && b != 12 && b != 13)
+        Some(!matches!(b, 10 | 12 | 13))
     } else if b == b'%' {
         Some(true)
     } else if is_white(b) {
@@ -24,15 +24,11 @@ pub(crate) fn skip<S: Source>(source: &mut S)
     ensures { S.Source.held source.new ≡ gone_to S.Source.model (S.Source.held source.old) (skipped false (S.Source.model.rest (S.Source.held source.old))) true }
 {
     let mut comment = false;
-    loop {
-        let b = match source.look() {
-            Next::End(_) => return,
-            Next::Byte(b) => b,
+    while let Ok(b) = source.look() {
+        let Some(open) = passing(comment, b) else {
+            return
         };
-        match passing(comment, b) {
-            None => return,
-            Some(open) => comment = open,
-        }
-        source.take();
+        comment = open;
+        let _ = source.take();
     }
 }

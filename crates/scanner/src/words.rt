@@ -2,28 +2,24 @@ ghost use Rattle.std.specs.Prelude.{◌≡◌};
 ghost use Rattle.scanner.specs.Numbers.{word_of};
 
 use crate::integers::integer;
+use crate::kinds::Kind;
 use crate::radix::radix;
 use crate::reals::is_real;
-
-// What a run is.
-#[derive(Clone, Copy)]
-pub enum Word {
-    Integer(i32),
-    Real,
-    Name,
-    // a radix number over 32 bits
-    TooLarge,
-}
+use source::Fault;
 
 // What a run is: an integer, a radix number, a real, or else a name.
-pub(crate) fn classify(s: &[u8]) -> Word
+pub(crate) fn classify(s: &[u8]) -> Result<Kind, Fault>
     ensures { result ≡ word_of s.now }
 {
     if let Some(v) = integer(s) {
-        return Word::Integer(v);
+        return Ok(Kind::Integer(v));
     }
-    if let Some(word) = radix(s) {
-        return word;
+    if let Some(number) = radix(s) {
+        return number;
     }
-    if is_real(s) { Word::Real } else { Word::Name }
+    if is_real(s) {
+        Ok(Kind::Real)
+    } else {
+        Ok(Kind::Name)
+    }
 }

@@ -1,8 +1,6 @@
-use Rattle.std.proofs.Common.{◌≡◌, ℕ, ◌-◌, ◌<◌, ◌≤◌, Bool, true, false, List, [], ◌∷◌, ◌++◌, length, take, drop, sym, refl, ap, ◌∙◌, ap₂, arith}
+use Rattle.std.proofs.Common.{◌≡◌, ℕ, Result, Ok, Err, ◌-◌, ◌<◌, ◌≤◌, Bool, true, false, List, [], ◌∷◌, ◌++◌, length, take, drop, sym, refl, ap, ◌∙◌, ap₂, arith}
 use Rattle.std.proofs.lemmas.List.{take-append-drop}
 use Rattle.source.specs.declared.ending.Ending.{Ending}
-use Rattle.source.specs.declared.interface.Next.{Next}
-use Rattle.source.specs.declared.interface.Next.TheVariants.{Byte, End}
 use Rattle.source.specs.Model.{Model, first, tail}
 use Rattle.source.specs.Laws.{Lawful}
 use Rattle.source.specs.Gone.{takes, gone_to, Behind}
@@ -16,11 +14,11 @@ pub record Steady (rest left : List ℕ) (peeked : Bool) : Type 0 where
   pub moved : peeked ≡ false → length left < length rest
 
 -- a take and a look as calls
-abbrev pub take_of : List ℕ → Ending → Read Next
-take_of [] e = record { answer = End e; left = []; peeked = true }
-take_of (b ∷ bs) e = record { answer = Byte b; left = bs; peeked = false }
+abbrev pub take_of : List ℕ → Ending → Read (Result ℕ Ending)
+take_of [] e = record { answer = Err e; left = []; peeked = true }
+take_of (b ∷ bs) e = record { answer = Ok b; left = bs; peeked = false }
 
-abbrev pub look_of : List ℕ → Ending → Read Next
+abbrev pub look_of : List ℕ → Ending → Read (Result ℕ Ending)
 look_of rest e = record { answer = first rest e; left = rest; peeked = true }
 
 pub no_peek : {C : Type 0} → ◌≡◌ {A = Bool} true false → C
@@ -43,17 +41,17 @@ steady_take [] e = steady_here []
 steady_take (b ∷ bs) e = steady_next b bs
 
 -- a byte that a take answered stood first
-pub take_first : (rest : List ℕ) (e : Ending) (b : ℕ) → Byte b ≡ (take_of rest e).answer → rest ≡ b ∷ (take_of rest e).left
+pub take_first : (rest : List ℕ) (e : Ending) (b : ℕ) → Ok b ≡ (take_of rest e).answer → rest ≡ b ∷ (take_of rest e).left
 take_first [] e b p = let z : ◌≡◌ {A = ℕ} 0 1 = cc in let no_way : ⊥ = omega arith in absurd no_way
 take_first (x ∷ rest) e b p = let q : b ≡ x = cc in ap (λ y. y ∷ rest) (sym q)
 
 -- an end that a take answered is the ending
-pub take_end : (rest : List ℕ) (e f : Ending) → End f ≡ (take_of rest e).answer → (rest ≡ []) × (f ≡ e)
+pub take_end : (rest : List ℕ) (e f : Ending) → Err f ≡ (take_of rest e).answer → (rest ≡ []) × (f ≡ e)
 take_end [] e f p = (refl, cc)
 take_end (x ∷ rest) e f p = let z : ◌≡◌ {A = ℕ} 0 1 = cc in let no_way : ⊥ = omega arith in absurd no_way
 
 module _ {H : Type 0} (m : Model H) (l : Lawful H m) where
-  pub reads_take : (h : H) (r : Next) (h' : H) → r ≡ first (m.rest h) (m.ending h) → h' ≡ m.taken h → Reads m take_of h r h'
+  pub reads_take : (h : H) (r : Result ℕ Ending) (h' : H) → r ≡ first (m.rest h) (m.ending h) → h' ≡ m.taken h → Reads m take_of h r h'
   reads_take h r h' a t = record { answer = a ∙ at_first (m.rest h); after = t ∙ at_after (m.rest h) refl }
     where
       at_first : (r : List ℕ) → first r (m.ending h) ≡ (take_of r (m.ending h)).answer
@@ -66,7 +64,7 @@ module _ {H : Type 0} (m : Model H) (l : Lawful H m) where
           took m l h h b (reach_start m l h) (sym (ap (λ r. first r (m.ending h)) e))
           ∙ ap (λ r. gone_to m h r false) (l.taken_rest h ∙ ap tail e)
 
-  pub reads_look : (h : H) (r : Next) (h' : H) → r ≡ first (m.rest h) (m.ending h) → h' ≡ m.looked h → Reads m look_of h r h'
+  pub reads_look : (h : H) (r : Result ℕ Ending) (h' : H) → r ≡ first (m.rest h) (m.ending h) → h' ≡ m.looked h → Reads m look_of h r h'
   reads_look h r h' a t = record { answer = a; after = t ∙ looked m l h h (reach_start m l h) }
 
   module _ {A : Type 0} (f : List ℕ → Ending → Read A) (h : H) (r : A) (h' : H) where
@@ -157,13 +155,13 @@ module _ {H : Type 0} (m : Model H) (l : Lawful H m) where
     }
 
     pub reads_took :
-        (b : ℕ) → Byte b ≡ first (m.rest x) (m.ending x) → s ≡ go (b ∷ m.rest x') → m.rest x' ≡ s.left → false ≡ s.peeked → Reads m f h r x'
+        (b : ℕ) → Ok b ≡ first (m.rest x) (m.ending x) → s ≡ go (b ∷ m.rest x') → m.rest x' ≡ s.left → false ≡ s.peeked → Reads m f h r x'
     reads_took b p e a c =
         let stop = walk_stop_took m l h x go (f (m.rest h) (m.ending h)) x' b k p t in
         reads_by (e ∙ stop.0) (stop.1 ∙ ap₂ (gone_to m h) a c)
 
     pub reads_ended :
-        (z : Ending) → End z ≡ first (m.rest x) (m.ending x) → s ≡ go [] → [] ≡ s.left → true ≡ s.peeked → Reads m f h r x'
+        (z : Ending) → Err z ≡ first (m.rest x) (m.ending x) → s ≡ go [] → [] ≡ s.left → true ≡ s.peeked → Reads m f h r x'
     reads_ended z p e a c =
         let stop = walk_stop_ended m l h x go (f (m.rest h) (m.ending h)) x' z k p t in
         reads_by (e ∙ stop.0) (stop.1 ∙ ap₂ (gone_to m h) a c)

@@ -1,6 +1,5 @@
-use Rattle.std.proofs.Common.{◌≡◌, ℕ, zero, suc, ◌+◌, ◌-◌, ◌≤◌, Bool, true, false, ◌||◌, List, [], ◌∷◌, ◌++◌, length, drop, sym, refl, ap, ◌∙◌, subst, ap₂, append_assoc, arith, length-append}
+use Rattle.std.proofs.Common.{◌≡◌, ℕ, Ok, Err, zero, suc, ◌+◌, ◌-◌, ◌≤◌, Bool, true, false, ◌||◌, List, [], ◌∷◌, ◌++◌, length, drop, sym, refl, ap, ◌∙◌, subst, ap₂, append_assoc, arith, length-append}
 use Rattle.source.specs.declared.ending.Ending.{Ending}
-use Rattle.source.specs.declared.interface.Next.TheVariants.{Byte, End}
 use Rattle.source.specs.Model.{Model, first, tail}
 use Rattle.source.specs.Laws.{Lawful}
 use Rattle.source.specs.Gone.{takes, peek, gone_to, Behind}
@@ -37,11 +36,11 @@ pub behind_count : {a b : List ℕ} (p : Behind a b) → length b - length a ≡
 behind_count {a} {b} p = omega (arith, length-append p.front a, ap length p.joined)
 
 -- what a byte or an end that was answered says of the rest
-pub byte_first : (r : List ℕ) (e : Ending) (b : ℕ) → Byte b ≡ first r e → r ≡ b ∷ tail r
+pub byte_first : (r : List ℕ) (e : Ending) (b : ℕ) → Ok b ≡ first r e → r ≡ b ∷ tail r
 byte_first [] e b p = let z : ◌≡◌ {A = ℕ} 0 1 = cc in let no_way : ⊥ = omega arith in absurd no_way
 byte_first (x ∷ r) e b p = let q : b ≡ x = cc in ap (λ y. y ∷ r) (sym q)
 
-pub end_first : (r : List ℕ) (e f : Ending) → End f ≡ first r e → (r ≡ []) × (f ≡ e)
+pub end_first : (r : List ℕ) (e f : Ending) → Err f ≡ first r e → (r ≡ []) × (f ≡ e)
 end_first [] e f p = (refl, cc)
 end_first (x ∷ r) e f p = let z : ◌≡◌ {A = ℕ} 0 1 = cc in let no_way : ⊥ = omega arith in absurd no_way
 

@@ -1,7 +1,6 @@
-use Rattle.std.proofs.Common.{◌≡◌, ℕ, zero, suc, ◌+◌, ◌-◌, ◌<◌, ◌≤◌, Bool, true, false, ◌&&◌, ◌||◌, eqb, List, [], ◌∷◌, length, sym, refl, ap, ◌∙◌, subst, arith}
+use Rattle.std.proofs.Common.{◌≡◌, ℕ, Ok, Err, zero, suc, ◌+◌, ◌-◌, ◌<◌, ◌≤◌, Bool, true, false, ◌&&◌, ◌||◌, eqb, List, [], ◌∷◌, length, sym, refl, ap, ◌∙◌, subst, arith}
 use Rattle.std.proofs.lemmas.Bool.{eq-eqb, ne_eqb}
 use Rattle.source.specs.declared.ending.Ending.{Ending}
-use Rattle.source.specs.declared.interface.Next.TheVariants.{Byte, End}
 use Rattle.source.specs.Model.{Model, first, tail}
 use Rattle.source.specs.Laws.{Lawful}
 use Rattle.source.specs.Gone.{takes, peek, gone_to, Behind}
@@ -41,7 +40,7 @@ module _ {H : Type 0} (m : Model H) (l : Lawful H m) where
   }
 
   -- a byte was taken
-  pub took : (h x : H) (b : ℕ) → Reach m h x → Byte b ≡ first (m.rest x) (m.ending x) → m.taken x ≡ gone_to m h (m.rest (m.taken x)) false
+  pub took : (h x : H) (b : ℕ) → Reach m h x → Ok b ≡ first (m.rest x) (m.ending x) → m.taken x ≡ gone_to m h (m.rest (m.taken x)) false
   took h x b f p =
       let e : m.rest x ≡ b ∷ tail (m.rest x) = byte_first (m.rest x) (m.ending x) b p in
       let t : m.rest (m.taken x) ≡ tail (m.rest x) = l.taken_rest x in
@@ -51,7 +50,7 @@ module _ {H : Type 0} (m : Model H) (l : Lawful H m) where
       ∙ (sym (takes_more m (length (m.rest h) - length (m.rest x)) h)
       ∙ ap (λ j. takes m j h) (let k : suc (length (m.rest h) - length (m.rest x)) ≡ length (m.rest h) - length (m.rest (m.taken x)) = omega (arith, f.fewer, n) in k)))
 
-  pub reach_took : (h x : H) (b : ℕ) → Reach m h x → Byte b ≡ first (m.rest x) (m.ending x) → Reach m h (m.taken x)
+  pub reach_took : (h x : H) (b : ℕ) → Reach m h x → Ok b ≡ first (m.rest x) (m.ending x) → Reach m h (m.taken x)
   reach_took h x b f p =
       let e : m.rest x ≡ b ∷ tail (m.rest x) = byte_first (m.rest x) (m.ending x) b p in
       let t : m.rest (m.taken x) ≡ tail (m.rest x) = l.taken_rest x in
@@ -84,7 +83,7 @@ module _ {H : Type 0} (m : Model H) (l : Lawful H m) where
   look_take x x₁ x₂ p q = q ∙ (ap m.taken p ∙ l.looked_taken x)
 
   -- a byte that was taken leaves fewer
-  pub took_fewer : (x x' : H) (b : ℕ) → Byte b ≡ first (m.rest x) (m.ending x) → x' ≡ m.taken x → length (m.rest x') < length (m.rest x)
+  pub took_fewer : (x x' : H) (b : ℕ) → Ok b ≡ first (m.rest x) (m.ending x) → x' ≡ m.taken x → length (m.rest x') < length (m.rest x)
   took_fewer x x' b p t =
       let e : m.rest x ≡ b ∷ m.rest x' = byte_first (m.rest x) (m.ending x) b p ∙ ap (λ r. b ∷ r) (sym (l.taken_rest x) ∙ ap m.rest (sym t)) in
       omega (arith, ap length e)
@@ -92,7 +91,7 @@ module _ {H : Type 0} (m : Model H) (l : Lawful H m) where
   module _ {R : Type 0} (h x : H) (go : List ℕ → R) (w : R) where
     -- a turn that takes the byte b
     pub walk_took :
-        (x' : H) (b : ℕ) (next : List ℕ → R) → Walk m h x go w → Byte b ≡ first (m.rest x) (m.ending x) → x' ≡ m.taken x
+        (x' : H) (b : ℕ) (next : List ℕ → R) → Walk m h x go w → Ok b ≡ first (m.rest x) (m.ending x) → x' ≡ m.taken x
         → go (b ∷ m.rest x') ≡ next (m.rest x') → Walk m h x' next w
     walk_took x' b next k p t e = record {
       at = subst (Reach m h) (sym t) (reach_took h x b k.at p);
@@ -101,7 +100,7 @@ module _ {H : Type 0} (m : Model H) (l : Lawful H m) where
 
     -- where it stops behind the byte b, which was taken
     pub walk_stop_took :
-        (x' : H) (b : ℕ) → Walk m h x go w → Byte b ≡ first (m.rest x) (m.ending x) → x' ≡ m.taken x
+        (x' : H) (b : ℕ) → Walk m h x go w → Ok b ≡ first (m.rest x) (m.ending x) → x' ≡ m.taken x
         → (go (b ∷ m.rest x') ≡ w) × (x' ≡ gone_to m h (m.rest x') false)
     walk_stop_took x' b k p t = (
       sym (ap go (byte_first (m.rest x) (m.ending x) b p ∙ ap (λ r. b ∷ r) (sym (l.taken_rest x) ∙ ap m.rest (sym t)))) ∙ k.on,
@@ -110,7 +109,7 @@ module _ {H : Type 0} (m : Model H) (l : Lawful H m) where
 
     -- where it stops before the byte b, which was looked at
     pub walk_stop_looked :
-        (x' : H) (b : ℕ) → Walk m h x go w → Byte b ≡ first (m.rest x) (m.ending x) → x' ≡ m.looked x
+        (x' : H) (b : ℕ) → Walk m h x go w → Ok b ≡ first (m.rest x) (m.ending x) → x' ≡ m.looked x
         → (go (b ∷ tail (m.rest x)) ≡ w) × (x' ≡ gone_to m h (b ∷ tail (m.rest x)) true)
     walk_stop_looked x' b k p t =
         let e : m.rest x ≡ b ∷ tail (m.rest x) = byte_first (m.rest x) (m.ending x) b p in
@@ -118,14 +117,14 @@ module _ {H : Type 0} (m : Model H) (l : Lawful H m) where
 
     -- where it stops at the end, by a look or by a take
     pub walk_stop_end :
-        (x' : H) (f : Ending) → Walk m h x go w → End f ≡ first (m.rest x) (m.ending x) → x' ≡ m.looked x
+        (x' : H) (f : Ending) → Walk m h x go w → Err f ≡ first (m.rest x) (m.ending x) → x' ≡ m.looked x
         → (go [] ≡ w) × (x' ≡ gone_to m h [] true) × (f ≡ m.ending h)
     walk_stop_end x' f k p t =
         let e = end_first (m.rest x) (m.ending x) f p in
         (sym (ap go e.0) ∙ k.on, t ∙ (looked h x k.at ∙ ap (λ r. gone_to m h r true) e.0), e.1 ∙ k.at.same)
 
     pub walk_stop_ended :
-        (x' : H) (f : Ending) → Walk m h x go w → End f ≡ first (m.rest x) (m.ending x) → x' ≡ m.taken x
+        (x' : H) (f : Ending) → Walk m h x go w → Err f ≡ first (m.rest x) (m.ending x) → x' ≡ m.taken x
         → (go [] ≡ w) × (x' ≡ gone_to m h [] true) × (f ≡ m.ending h)
     walk_stop_ended x' f k p t =
         let e = end_first (m.rest x) (m.ending x) f p in

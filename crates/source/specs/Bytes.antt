@@ -1,4 +1,4 @@
-use Rattle.std.specs.Prelude.{ℕ, ◌+◌, ◌-◌, ◌/◌, ◌%◌, ◌<◌, Bool, cond, ◌||◌, List, [], ◌∷◌, ◌==◌, nat_le, nat_lt}
+use Rattle.std.specs.Prelude.{ℕ, ◌+◌, ◌-◌, ◌/◌, ◌%◌, ◌<◌, Bool, cond, ◌||◌, List, [], ◌∷◌, ◌==◌, min, nat_le, nat_lt, Option, Some, None}
 
 -- the white bytes: null, tab, line feed, form feed, carriage return, blank
 abbrev pub white : ℕ → Bool
@@ -18,6 +18,10 @@ digit_value b =
     (cond (nat_le b 90) (b - 55)
     (cond (nat_le b 96) 36
     (cond (nat_le b 122) (b - 87) 36)))))
+
+-- the same in a base, 36 at most: none where the byte is no digit below the base
+abbrev pub digit_of : ℕ → ℕ → Option ℕ
+digit_of base b = cond (nat_lt (digit_value b) (min base 36)) (Some (digit_value b)) None
 
 -- a hexadecimal digit, with a capital letter
 abbrev pub hex_digit : ℕ → ℕ

@@ -1,4 +1,4 @@
-use Rattle.std.specs.Prelude.{ℕ, List, drop, refl}
+use Rattle.std.specs.Prelude.{ℕ, List, refl}
 use Rattle.std.proofs.Common.{sym, ◌∙◌, ap}
 use Rattle.source.specs.Model.{Model, tail}
 use Rattle.source.specs.declared.ending.Ending.TheVariants.{Clean}
@@ -22,4 +22,4 @@ memory_lawful = record {
 
 -- the bytes that have not been taken
 abbrev pub unread : Memory → List ℕ
-unread m = drop m.at m.bytes.now
+unread m = m.rest.now

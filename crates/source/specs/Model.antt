@@ -1,12 +1,10 @@
-use Rattle.std.specs.Prelude.{ℕ, List, [], ◌∷◌}
+use Rattle.std.specs.Prelude.{ℕ, List, [], ◌∷◌, Result, Ok, Err}
 use Rattle.source.specs.declared.ending.Ending.{Ending}
-use Rattle.source.specs.declared.interface.Next.{Next}
-use Rattle.source.specs.declared.interface.Next.TheVariants.{Byte, End}
 
 -- what a look or a take answers
-abbrev pub first : List ℕ → Ending → Next
-first [] e = End e
-first (b ∷ bs) e = Byte b
+abbrev pub first : List ℕ → Ending → Result ℕ Ending
+first [] e = Err e
+first (b ∷ bs) e = Ok b
 
 -- what a take leaves
 abbrev pub tail : List ℕ → List ℕ

@@ -1,13 +1,14 @@
-ghost use Rattle.std.specs.Prelude.{◌≡◌};
-ghost use Rattle.source.specs.Numbers.{fault_number, unended};
+ghost use Rattle.std.specs.Prelude.{◌≡◌, Some};
+ghost use Rattle.source.specs.Numbers.{fault_number, fault_depth, two_numbers, unended};
 
 use crate::ending::{Damage, Ending};
+use std::fmt;
 
 // Why a reader of a source failed.
-#[derive(Clone, Copy)]
-pub enum Cause {
-    // a damage of the source, passed up
-    Damage(Damage),
+#[derive(Clone, Copy, Debug, PartialEq, Eq)]
+pub enum Fault {
+    // a damage of the source, passed up with the number of filters that it has passed
+    Damage(Damage, u8),
     // the 128th byte of a run, or content beyond the area
     Limit,
     // a clean end inside a string, or behind `<` or `>`
@@ -20,45 +21,49 @@ pub enum Cause {
     StrayDelimiter,
 }
 
-// A failure: its cause, and how many filters a damage has passed; 0 for every other cause.
-#[derive(Clone, Copy)]
-pub struct Fault {
-    pub cause: Cause,
-    pub depth: u8,
+impl Fault {
+    // The number of its cause; by hand, since an enum that carries a damage has no `as`.
+    pub fn number(self) -> u8
+        ensures { result ≡ fault_number self }
+    {
+        match self {
+            Fault::Damage(damage, _) => damage.number(),
+            Fault::Limit => 31,
+            Fault::Unended => 32,
+            Fault::RadixRange => 33,
+            Fault::StrayInHex => 35,
+            Fault::StrayDelimiter => 36,
+        }
+    }
+
+    // How many filters a damage has passed; 0 for every other fault.
+    pub fn depth(self) -> u8
+        ensures { result ≡ fault_depth self }
+    {
+        match self {
+            Fault::Damage(_, depth) => depth,
+            _ => 0,
+        }
+    }
 }
 
-impl Fault {
-    // A fault that is no damage.
-    pub fn new(cause: Cause) -> Fault
-        ensures { result ≡ record { cause = cause; depth = 0 } }
-    {
-        Fault { cause, depth: 0 }
-    }
+// What an ending is where more bytes are needed: a clean end is the fault 32, a damage passes up as it is.
+impl From<Ending> for Fault {
+    ghost from_gives = { λ ending fault. fault ≡ unended ending };
 
-    // What an ending is where more bytes are needed: a clean end is the fault 32, a damage passes up as it is.
-    pub fn at_end(ending: Ending) -> Fault
-        ensures { result ≡ unended ending }
-    {
+    fn from(ending: Ending) -> Fault {
         match ending {
-            Ending::Clean => Fault::new(Cause::Unended),
-            Ending::Damaged(damage, depth) => Fault {
-                cause: Cause::Damage(damage),
-                depth,
-            },
+            Ending::Clean => Fault::Unended,
+            Ending::Damaged(damage, depth) => Fault::Damage(damage, depth),
         }
     }
+}
 
-    // The number of its cause.
-    pub fn number(self) -> u8
-        ensures { result ≡ fault_number self.cause }
-    {
-        match self.cause {
-            Cause::Damage(damage) => damage.number(),
-            Cause::Limit => 31,
-            Cause::Unended => 32,
-            Cause::RadixRange => 33,
-            Cause::StrayInHex => 35,
-            Cause::StrayDelimiter => 36,
-        }
+// Its two numbers.
+impl fmt::Display for Fault {
+    ghost output = { λ fault. Some (two_numbers (fault_number fault) (fault_depth fault)) };
+
+    fn fmt<W: fmt::Write>(&self, f: &mut fmt::Formatter<W>) -> fmt::Result {
+        write!(f, "{} {}", self.number(), self.depth())
     }
 }

@@ -1,10 +1,10 @@
 ghost use Rattle.std.specs.Prelude.{◌≡◌};
 ghost use Rattle.source.specs.Hex.{paired, hex_byte_of, hex_turn_of};
 
-use crate::bytes::{digit_value, is_white};
+use crate::bytes::{digit, is_white};
 
 // What a byte is in hexadecimal data.
-#[derive(Clone, Copy)]
+#[derive(Clone, Copy, Debug, PartialEq, Eq)]
 pub enum HexByte {
     Digit(u8),
     White,
@@ -13,7 +13,7 @@ pub enum HexByte {
 }
 
 // What a byte does in hexadecimal data.
-#[derive(Clone, Copy)]
+#[derive(Clone, Copy, Debug, PartialEq, Eq)]
 pub enum HexTurn {
     // a digit that waits for its second, or none
     Wait(Option<u8>),
@@ -29,15 +29,11 @@ pub enum HexTurn {
 fn hex_byte(b: u8) -> HexByte
     ensures { result ≡ hex_byte_of b }
 {
-    let d = digit_value(b);
-    if d < 16 {
-        HexByte::Digit(d)
-    } else if is_white(b) {
-        HexByte::White
-    } else if b == b'>' {
-        HexByte::Close
-    } else {
-        HexByte::Stray
+    match digit(b, 16) {
+        Some(d) => HexByte::Digit(d),
+        None if is_white(b) => HexByte::White,
+        None if b == b'>' => HexByte::Close,
+        None => HexByte::Stray,
     }
 }
 

@@ -3,13 +3,12 @@ ghost use Rattle.source.specs.Memory.{memory_model, memory_lawful, unread};
 ghost use Rattle.source.specs.declared.ending.Ending.TheVariants.{Clean};
 
 use crate::ending::Ending;
-use crate::interface::{Next, Source};
+use crate::interface::Source;
 
 // A source over bytes that are lent, with a clean end.
-#[derive(Drop)]
+#[derive(Clone, Copy)]
 pub struct Memory<'a> {
-    bytes: &'a [u8],
-    at: usize,
+    rest: &'a [u8],
 }
 
 impl<'a> Memory<'a> {
@@ -18,7 +17,7 @@ impl<'a> Memory<'a> {
         ensures rest { memory_model.rest (unread result) ≡ bytes.now }
         ensures ending { memory_model.ending (unread result) ≡ Clean }
     {
-        Memory { bytes, at: 0 }
+        Memory { rest: bytes }
     }
 }
 
@@ -31,21 +30,20 @@ impl<'a> Source for Memory<'a> {
 
     ghost lawful = { memory_lawful };
 
-    fn look(&mut self) -> Next {
-        if self.at < self.bytes.len() {
-            Next::Byte(self.bytes[self.at])
-        } else {
-            Next::End(Ending::Clean)
+    fn look(&mut self) -> Result<u8, Ending> {
+        match self.rest {
+            [b, ..] => Ok(*b),
+            [] => Err(Ending::Clean),
         }
     }
 
-    fn take(&mut self) -> Next {
-        if self.at < self.bytes.len() {
-            let b = self.bytes[self.at];
-            self.at += 1;
-            Next::Byte(b)
-        } else {
-            Next::End(Ending::Clean)
+    fn take(&mut self) -> Result<u8, Ending> {
+        match self.rest {
+            [b, rest @ ..] => {
+                self.rest = rest;
+                Ok(*b)
+            }
+            [] => Err(Ending::Clean),
         }
     }
 }

@@ -1,8 +1,7 @@
-use Rattle.std.proofs.Common.{◌≡◌, ℕ, ◌+◌, ◌<◌, ◌≤◌, min, true, false, List, [], ◌∷◌, ◌++◌, length, get_or, take, drop, set, sym, refl, ap, ◌∙◌, subst, arith}
+use Rattle.std.proofs.Common.{Ok, Err, ◌≡◌, ℕ, ◌+◌, ◌<◌, ◌≤◌, min, true, false, List, [], ◌∷◌, ◌++◌, length, get_or, take, drop, set, sym, refl, ap, ◌∙◌, subst, arith}
 use Rattle.std.proofs.lemmas.List.{length-drop, take_all, drop_all, drop_more, take_more, take_more_set}
 use Rattle.std.proofs.lemmas.Bool.{lt-ltb, le-ltb}
 use Rattle.source.specs.declared.ending.Ending.{Ending}
-use Rattle.source.specs.declared.interface.Next.TheVariants.{Byte, End}
 use Rattle.source.specs.Model.{Model, first, tail}
 use Rattle.source.specs.Laws.{Lawful}
 use Rattle.source.specs.Gone.{gone_to}
@@ -51,7 +50,7 @@ module _ {H : Type 0} (m : Model H) (l : Lawful H m) (h x : H) (old new : List �
       (k.there ∙ (ap (λ s. gone_to m h s false) (k.at ∙ ap (λ j. drop j r) (sym e)) ∙ ap (gone_to m h (drop (length old) r)) (sym (le-ltb (length r) (length old) (omega arith)))))
 
   -- there is nothing left
-  pub filled_end : (x' : H) (z : Ending) → n < length old → End z ≡ first (m.rest x) (m.ending x) → x' ≡ m.taken x → Scans m fill_of h old n x' new
+  pub filled_end : (x' : H) (z : Ending) → n < length old → Err z ≡ first (m.rest x) (m.ending x) → x' ≡ m.taken x → Scans m fill_of h old n x' new
   filled_end x' z lt p t =
       let r = m.rest h in
       let none : m.rest x ≡ [] = (end_first (m.rest x) (m.ending x) z p).0 in
@@ -63,7 +62,7 @@ module _ {H : Type 0} (m : Model H) (l : Lawful H m) (h x : H) (old new : List �
       ∙ (ap (λ s. gone_to m h s true) (sym (drop_all (length old) r (omega arith))) ∙ ap (gone_to m h (drop (length old) r)) (sym (lt-ltb (length r) (length old) (omega arith))))))
 
   -- a byte more
-  pub filling_more : (x' : H) (b : ℕ) → n < length new → Byte b ≡ first (m.rest x) (m.ending x) → x' ≡ m.taken x → Filling m h x' old (set new n b) (n + 1)
+  pub filling_more : (x' : H) (b : ℕ) → n < length new → Ok b ≡ first (m.rest x) (m.ending x) → x' ≡ m.taken x → Filling m h x' old (set new n b) (n + 1)
   filling_more x' b lt p t =
       let r = m.rest h in
       let one : drop n r ≡ b ∷ tail (m.rest x) = sym k.at ∙ byte_first (m.rest x) (m.ending x) b p in

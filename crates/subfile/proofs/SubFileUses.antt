@@ -1,12 +1,11 @@
-use Rattle.std.proofs.Common.{◌≡◌, ℕ, suc, ◌+◌, ◌-◌, ◌<◌, ◌≤◌, Bool, true, false, cond, eqb, List, [], ◌∷◌, ◌++◌, length, take, drop, Some, None, sym, refl, ap, ◌∙◌, ap₂, arith, length-append, length-take}
+use Rattle.std.proofs.Common.{◌≡◌, ℕ, suc, ◌+◌, ◌<◌, ◌≤◌, Bool, true, false, cond, eqb, List, [], ◌∷◌, ◌++◌, length, take, drop, Some, None, Ok, sym, refl, ap, ◌∙◌, ap₂, arith, length-append, length-take}
 use Rattle.source.specs.declared.ending.Ending.{Ending}
 use Rattle.source.specs.declared.ending.Ending.TheVariants.{Clean}
-use Rattle.source.specs.declared.interface.Next.TheVariants.{Byte}
 use Rattle.source.specs.Model.{Model, first}
 use Rattle.source.specs.Laws.{Lawful}
-use Rattle.source.specs.Gone.{takes, gone_to}
+use Rattle.source.specs.Gone.{gone_to}
 use Rattle.source.specs.Reads.{Read, Reads}
-use Rattle.source.proofs.Walk.{Walk, walk_start, walk_took, walk_stop_took}
+use Rattle.source.proofs.Walk.{Walk, walk_took, walk_stop_took}
 use Rattle.subfile.specs.declared.mark.Mark.{Mark}
 use Rattle.subfile.specs.declared.subfile.Match.{Match}
 use Rattle.subfile.specs.declared.subfile.Match.TheVariants.{Starts, Equals, Fails}
@@ -62,17 +61,10 @@ pub record Comparing {H : Type 0} (m : Model H) (h x : H) (f₀ f : Holds SubSta
   pub places : n ≡ length f.compared
 
 module _ {H : Type 0} (m : Model H) (l : Lawful H m) where
-  pub compare_start : (h : H) (f : Holds SubState) (n : ℕ) → n ≡ length f.compared → Comparing m h h f f n
-  compare_start h f n e = record {
-    walk = walk_start m l h (λ r. mark_at f.kind f.compared r (m.ending h));
-    there = ap (λ j. takes m j h) (let e : 0 ≡ length (m.rest h) - length (m.rest h) = omega arith in e);
-    places = e;
-  }
-
   module _ (h x : H) (f₀ f : Holds SubState) (n : ℕ) (k : Comparing m h x f₀ f n) where
     -- a byte was taken and is held
     pub compare_on :
-        (x' : H) (b : ℕ) (ready c : List ℕ) (n' : ℕ) → Starts ≡ judged f.kind.mark f.compared → Byte b ≡ first (m.rest x) (m.ending x) → x' ≡ m.taken x
+        (x' : H) (b : ℕ) (ready c : List ℕ) (n' : ℕ) → Starts ≡ judged f.kind.mark f.compared → Ok b ≡ first (m.rest x) (m.ending x) → x' ≡ m.taken x
         → c ≡ f.compared ++ b ∷ [] → n' ≡ n + 1 → Comparing m h x' f₀ (record { ready = ready; compared = c; kind = f.kind }) n'
     compare_on x' b ready c n' q p t e i = record {
       walk =

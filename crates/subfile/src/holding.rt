@@ -1,3 +1,5 @@
+#![tactic(auto, using(crate::proofs::PartsUses::part_none, crate::proofs::PartsUses::part_others, crate::proofs::PartsUses::part_moved), unfolding(crate::specs::Holding::ready_of, crate::specs::Holding::compared_of, crate::specs::Holding::filled_of))]
+
 ghost use Rattle.std.specs.Prelude.{◌≡◌, ◌+◌, ◌<◌, [], ◌∷◌, ◌++◌, length, take, drop};
 ghost use Rattle.source.specs.Model.{tail};
 ghost use Rattle.decoding.specs.Step.{head_of};
@@ -18,7 +20,7 @@ impl Window {
         }
     }
 
-    // One byte that is ready.
+    // One byte that is ready. A literal as in `empty`, since `..` is not for a struct with a ghost field.
     pub(crate) fn one(b: u8) -> Window
         ensures ready { ready_of result ≡ b ∷ [] }
         ensures compared { compared_of result ≡ [] }
@@ -35,11 +37,7 @@ impl Window {
     pub(crate) fn first(&self) -> Option<u8>
         ensures { result ≡ head_of (ready_of self.now) }
     {
-        if self.from < self.ready {
-            Some(self.bytes[self.from])
-        } else {
-            None
-        }
+        self.bytes[self.from..self.ready].first().copied()
     }
 
     // Hands the first ready byte up; where none is ready nothing changes.

@@ -1,10 +1,12 @@
+#![tactic(auto, unfolding(crate::specs::Marks::mark_of))]
+
 ghost use Rattle.std.specs.Prelude.{◌≡◌};
 ghost use Rattle.subfile.specs.Marks.{mark_of, marked, mark_for, refusal_number};
 
 use crate::mark::Mark;
 
 // A mark of more than 16 bytes is refused.
-#[derive(Clone, Copy)]
+#[derive(Clone, Copy, Debug, PartialEq, Eq)]
 pub struct MarkTooLong;
 
 impl MarkTooLong {
@@ -21,15 +23,13 @@ impl Mark {
     pub fn new(bytes: &[u8]) -> Result<Mark, MarkTooLong>
         ensures { marked result ≡ mark_for bytes.now }
     {
-        if bytes.len() > 16 {
+        let len = bytes.len();
+        if len > 16 {
             return Err(MarkTooLong);
         }
         let mut all = [0; 16];
-        all[..bytes.len()].copy_from_slice(bytes);
-        Ok(Mark {
-            bytes: all,
-            len: bytes.len(),
-        })
+        all[..len].copy_from_slice(bytes);
+        Ok(Mark { bytes: all, len })
     }
 
     pub(crate) fn as_slice(&self) -> &[u8]

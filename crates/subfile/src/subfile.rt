@@ -10,10 +10,10 @@ ghost use Rattle.subfile.specs.SubFileExamples.{SubFileExamples};
 use crate::mark::Mark;
 use crate::window::Window;
 use decoding::{Kind, ending_above, ending_passed};
-use source::{Ending, Next, Source};
+use source::{Ending, Source};
 
 // How the bytes held stand to the mark.
-#[derive(Clone, Copy)]
+#[derive(Clone, Copy, Debug, PartialEq, Eq)]
 enum Match {
     // a proper start of it, or none
     Starts,
@@ -33,15 +33,10 @@ pub struct SubFile {
 fn judge(mark: &[u8], held: &[u8]) -> Match
     ensures { result ≡ judged mark.now held.now }
 {
-    for i in 0..held.len() {
-        if i >= mark.len() || mark[i] != held[i] {
-            return Match::Fails;
-        }
-    }
-    if held.len() < mark.len() {
-        Match::Starts
-    } else {
-        Match::Equals
+    match mark.strip_prefix(held) {
+        None => Match::Fails,
+        Some([]) => Match::Equals,
+        Some(_) => Match::Starts,
     }
 }
 
@@ -62,15 +57,8 @@ impl SubFile {
     fn count_one(&mut self) -> Option<Ending>
         ensures { own_of (sub_holds self.new) result ≡ counted_own (sub_holds self.old) }
     {
-        if self.count == 0 {
-            return None;
-        }
-        self.count -= 1;
-        if self.count == 0 {
-            Some(Ending::Clean)
-        } else {
-            None
-        }
+        self.count = self.count.checked_sub(1)?;
+        (self.count == 0).then_some(Ending::Clean)
     }
 
     // The bytes held are the mark.
@@ -90,17 +78,16 @@ impl SubFile {
         ensures { Reads S.Source.model (byte_at (sub_holds self.old).kind) (S.Source.held below.old) (own_of (sub_holds self.new) result) (S.Source.held below.new) }
     {
         match below.take() {
-            Next::End(ending) => {
-                self.held = Window::empty();
-                if self.count == 0 {
-                    Some(ending_passed(ending))
-                } else {
-                    Some(ending_above(ending))
-                }
-            }
-            Next::Byte(b) => {
+            Ok(b) => {
                 self.held = Window::one(b);
                 self.count_one()
+            }
+            Err(ending) => {
+                self.held = Window::empty();
+                match self.count {
+                    0 => Some(ending_passed(ending)),
+                    _ => Some(ending_above(ending)),
+                }
             }
         }
     }
@@ -120,11 +107,11 @@ impl SubFile {
                 }
             }
             match below.take() {
-                Next::End(ending) => {
+                Ok(b) => self.held.hold(b),
+                Err(ending) => {
                     self.held.release();
                     return Some(ending_above(ending));
                 }
-                Next::Byte(b) => self.held.hold(b),
             }
         }
     }
@@ -133,7 +120,7 @@ impl SubFile {
 impl Kind for SubFile {
     const MOST: usize = 16;
 
-    ghost most = { 16 };
+    ghost MOST = { 16 };
 
     ghost State = { SubState };
 
@@ -163,9 +150,5 @@ impl Kind for SubFile {
 
     fn count(&self) -> usize {
         self.held.count()
-    }
-
-    fn most_held() -> usize {
-        Self::MOST
     }
 }

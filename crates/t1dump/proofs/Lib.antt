@@ -1,3 +1,2 @@
-pub mod ShortLines
 pub mod ListUses
 pub mod Worked

@@ -1,6 +1,6 @@
-use Rattle.std.proofs.Common.{◌≡◌, ℕ, zero, suc, ◌-◌, ◌<◌, ◌≤◌, Bool, true, false, cond, ltb, List, [], ◌∷◌, ◌++◌, length, take, drop, Result, sym, refl, ap, ◌∙◌, subst, ap₂, append_assoc, arith}
-use Rattle.std.proofs.lemmas.List.{append-nil, length-append, take_at}
-use Rattle.std.proofs.lemmas.Bool.{cond-true, cond-false, or_from, le-ltb, true≢false}
+use Rattle.std.proofs.Common.{◌≡◌, ℕ, zero, suc, ◌<◌, ◌≤◌, Bool, true, false, cond, List, [], ◌∷◌, ◌++◌, length, Result, sym, refl, ap, ◌∙◌, subst, append_assoc, arith}
+use Rattle.std.proofs.lemmas.List.{append-nil}
+use Rattle.std.proofs.lemmas.Bool.{cond-true, cond-false, true≢false}
 use Rattle.source.specs.declared.ending.Ending.{Ending}
 use Rattle.source.specs.declared.ending.Ending.TheVariants.{Clean, Damaged}
 use Rattle.source.specs.Model.{Model}
@@ -11,8 +11,7 @@ use Rattle.source.proofs.Walk.{Walk, reach_start}
 use Rattle.source.proofs.Calls.{Steady, walk_left, walk_on}
 use Rattle.scanner.specs.declared.failure.Failure.{Failure}
 use Rattle.scanner.specs.declared.kinds.Token.{Token}
-use Rattle.scanner.specs.AnswerLaw.{said}
-use Rattle.scanner.specs.Scan.{Scan, Scans}
+use Rattle.scanner.specs.Scan.{Scan}
 use Rattle.scanner.specs.Spaces.{skipped}
 use Rattle.scanner.specs.Tokens.{ended_token, unfit, token_of}
 use Rattle.scanner.proofs.AnswerLawful.{answer_law}
@@ -20,45 +19,12 @@ use Rattle.scanner.proofs.Steadiness.{steady_token}
 use Rattle.t1dump.specs.Listed.{Listed}
 use Rattle.t1dump.specs.LinesLaw.{LinesLaw}
 use Rattle.t1dump.specs.Texts.{answer_text, goes_on, lines_at, lines_of}
-use Rattle.t1dump.specs.Written.{Wrote}
-
--- what an answer says of the area
-
-module _
-    {H : Type 0} (m : Model H) (h : H) (old : List ℕ) (r : Result Token Failure) (h' : H) (new : List ℕ)
-    (y : Scans m token_of h old r h' new) where
-  said_is : said r ≡ length (token_of (length old) (m.rest h) (m.ending h)).content
-  said_is = ap said y.answer ∙ answer_law.counts (length old) (m.rest h) (m.ending h)
-
-  pub said_within : said r ≤ length new
-  said_within =
-      let s = (token_of (length old) (m.rest h) (m.ending h)).content in
-      omega (arith, said_is, ap length y.filled, length-append s (drop (length s) old))
-
-  said_content : take (said r) new ≡ (token_of (length old) (m.rest h) (m.ending h)).content
-  said_content = ap (take (said r)) y.filled ∙ take_at (token_of (length old) (m.rest h) (m.ending h)).content _ (said r) (sym said_is)
-
-  -- the line of the answer was added to what is printed
-  pub answer_listed :
-      (line : List ℕ) (n : ℕ) (line' out out' : List ℕ) (more : Bool) → Wrote (answer_text r (take (said r) new)) line n line'
-      → out' ≡ out ++ take (n - 0) line' → more ≡ goes_on r → Listed (token_of (length old) (m.rest h) (m.ending h)) out more out'
-  answer_listed line n line' out out' more w e q =
-      let text = answer_text r (take (said r) new) in
-      let same : take (n - 0) line' ≡ text =
-      ap (take (n - 0)) w.filled ∙ take_at text _ (n - 0) (let k : length text ≡ n - 0 = omega (arith, w.count) in k) in
-      record {
-        lines = e ∙ ap (λ t. out ++ t) (same ∙ ap₂ answer_text y.answer said_content);
-        goes = q ∙ ap goes_on y.answer;
-      }
 
 -- the loop
 
 -- a token as a call that reads
 abbrev token_read : ℕ → List ℕ → Ending → Read (Result Token Failure)
 token_read room rest e = record { answer = (token_of room rest e).answer; left = (token_of room rest e).left; peeked = (token_of room rest e).peeked }
-
-pub fit : (room : ℕ) → 128 ≤ room → room ≤ 65535 → unfit room ≡ false
-fit room lo hi = or_from (ltb room 128) (ltb 65535 room) (le-ltb room 128 lo) (le-ltb 65535 room hi)
 
 ended_stops : (e : Ending) → goes_on (ended_token e) ≡ false
 ended_stops Clean = refl
@@ -101,18 +67,18 @@ lines_now zero room rest e h = let no_way : ⊥ = omega arith in absurd no_way
 lines_now (suc j) room rest e h = (j, omega arith, refl)
 
 module _
-    {H : Type 0} (m : Model H) (l : Lawful H m) (room : ℕ) (ok : unfit room ≡ false) (h x x' : H) (before out out' : List ℕ) (more : Bool) (size : ℕ) (same : size ≡ room)
+    {H : Type 0} (m : Model H) (l : Lawful H m) (room : ℕ) (ok : unfit room ≡ false) (h x x' : H) (before out out' : List ℕ) (more : Bool)
     (k : Listing room m h x before out)
-    (y : x' ≡ gone_to m x (token_of size (m.rest x) (m.ending x)).left (token_of size (m.rest x) (m.ending x)).peeked)
-    (s : Listed (token_of size (m.rest x) (m.ending x)) out more out') where
+    (y : x' ≡ gone_to m x (token_of room (m.rest x) (m.ending x)).left (token_of room (m.rest x) (m.ending x)).peeked)
+    (s : Listed (token_of room (m.rest x) (m.ending x)) out more out') where
   steady : (rest : List ℕ) (e : Ending) → Steady rest (token_read room rest e).left (token_read room rest e).peeked
   steady = steady_token room ok
 
   read : Reads m (token_read room) x (token_of room (m.rest x) (m.ending x)).answer x'
-  read = record { answer = refl; after = y ∙ ap (λ n. gone_to m x (token_of n (m.rest x) (m.ending x)).left (token_of n (m.rest x) (m.ending x)).peeked) same }
+  read = record { answer = refl; after = y }
 
   here : Listed (token_of room (m.rest x) (m.ending h)) out more out'
-  here = subst (λ e. Listed (token_of room (m.rest x) e) out more out') k.walk.at.same (subst (λ n. Listed (token_of n (m.rest x) (m.ending x)) out more out') same s)
+  here = subst (λ e. Listed (token_of room (m.rest x) e) out more out') k.walk.at.same s
 
   left : m.rest x' ≡ (token_of room (m.rest x) (m.ending h)).left
   left = walk_left m l (token_read room) h x _ x' _ _ steady k.walk read
@@ -166,9 +132,3 @@ lines_law room ok rest e =
     at true g =
         let f : length (token_of room rest e).left < length rest = falls room ok rest e g in
         lines_free (length rest) (suc (length (token_of room rest e).left)) room ok (token_of room rest e).left e f (let a : length (token_of room rest e).left < suc (length (token_of room rest e).left) = omega arith in a)
-
--- the lines of an input, where nothing was printed before them
-pub input_lines :
-    (out before : List ℕ) (size : ℕ) (rest input : List ℕ) (e : Ending) → before ≡ [] → size ≡ 4096 → rest ≡ input → out ≡ before ++ lines_of size rest e
-    → out ≡ lines_of 4096 input e
-input_lines out before size rest input e p q r s = s ∙ (ap (λ b. b ++ lines_of size rest e) p ∙ ap₂ (λ n r. lines_of n r e) q r)

@@ -3,24 +3,15 @@
 
 mod answers;
 mod dump;
-mod texts;
+mod lister;
 
 use dump::{LIMIT, dump_input};
 use std::io::{Read, Write};
 
 // Reads standard input up to its end, or up to one byte more than the most that is listed.
 fn read_input(rt: &HostRuntime) -> anyhow::Result<Vec<u8>> {
-    let mut bytes = vec![in rt.alloc(); 0u8; 65537]?;
-    let mut n = 0;
-    // each turn but the last reads a byte or more
-    for _ in 0..=LIMIT {
-        let read = rt.stdin().read(&mut bytes[n..])?;
-        if read == 0 {
-            break;
-        }
-        n += read;
-    }
-    bytes.truncate(n);
+    let mut bytes = Vec::new(rt.alloc());
+    rt.stdin().take(LIMIT as u64 + 1).read_to_end(&mut bytes)?;
     Ok(bytes)
 }
 

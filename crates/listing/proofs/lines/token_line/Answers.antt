@@ -1,21 +1,14 @@
-use Rattle.std.proofs.Common.{ap}
-use Rattle.listing.specs.Lines.{token_by}
-use Rattle.listing.specs.Shown.{shown}
-use Rattle.listing.proofs.Worked.{examples}
-use Rattle.listing.proofs.Lawful.{told_apart}
-use Rattle.listing.proofs.LineUses.{prints_as}
+use Rattle.std.proofs.Common.{◌+◌, ◌*◌, ◌≤◌, length, arith}
+use Rattle.listing.specs.Texts.{text_of}
+use Rattle.listing.proofs.ShortLines.{prints_ok, token_short}
 use Rattle.listing.proofs.lines.token_line.Goals as goal
+use Rattle.listing.proofs.lines.token_line.Goals.{in-None, in-Some}
 
-pub returns-in-None : goal.returns-in-None
-returns-in-None c = record {
-  prints = prints_as c.print_end.ensures (ap (λ o. token_by o c.args.level (shown c.args.token c.args.content.now)) c.in-None.ensures);
-  examples = examples;
-  apart = told_apart;
-}
-
-pub returns-in-Some : goal.returns-in-Some
-returns-in-Some c = record {
-  prints = prints_as c.print_token.ensures (ap (λ o. token_by o c.args.level (shown c.args.token c.args.content.now)) c.in-Some.ensures);
-  examples = examples;
-  apart = told_apart;
-}
+pub returns-clause-enough : goal.returns-clause-enough
+returns-clause-enough c = λ room.
+    let short : length (text_of c.match-word_of.text) ≤ 4 * length c.args.content.now + 32 =
+    elim c.match-word_of.branch [
+      | in-None w ↦ rw w.text-is (omega arith)
+      | in-Some w ↦ rw w.text-is (token_short c.args.token.kind _ _ _ _ w.in-Some.ensures (omega arith) c.form_of-form.ensures.small)
+    ] in
+    prints_ok _ _ _ _ c.print.ensures (omega arith)

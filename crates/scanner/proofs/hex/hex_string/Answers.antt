@@ -1,43 +1,37 @@
-use Rattle.std.proofs.Common.{◌≡◌, ◌<◌, length, Err, sym, subst, arith}
-use Rattle.scanner.specs.Scan.{Scans}
-use Rattle.scanner.specs.HexStrings.{hex_of}
-use Rattle.scanner.proofs.HexUses.{hexed_wait, hexed_put, hexed_done, hexed_stray, hexed_put_full, hexed_last_full, hexed_last, hexed_end}
+use Rattle.std.proofs.lemmas.Result.{err_from_is_err_and}
+use Rattle.scanner.specs.Takes.{byte_of}
+use Rattle.scanner.proofs.Mapped.{reads_passed}
+use Rattle.scanner.proofs.HexUses.{hexed_wait, hexed_put, hexed_done, hexed_stray, hexed_put_full, hexed_last}
 use Rattle.scanner.proofs.hex.hex_string.Goals as goal
 
-pub returns-in-Err : goal.returns-in-Err
-returns-in-Err g c = hexed_end g.S.Source.model g.S.Source.lawful _ _ _ _ _ _ c.loop-b.pending c.in-Err.fault c.loop-b.invariant c.in-Err.ensures
-
 pub returns-in-Done : goal.returns-in-Done
-returns-in-Done g c = hexed_done g.S.Source.model g.S.Source.lawful _ _ _ _ _ _ c.loop-b.pending c.in-Ok.b c.loop-b.invariant c.in-Ok.ensures c.in-Done.ensures.is
+returns-in-Done g c =
+    let y = reads_passed _ _ g.S.Source.model byte_of _ _ _ _ c.next_byte.ensures c.in_ok-b.ensures.cases c.in_ok-b.ensures.variant in
+    hexed_done g.S.Source.model g.met.S.Source.lawful _ _ _ _ _ _ c.loop-b.pending c.in_ok-b.b c.loop-b.invariant y c.in-Done.ensures
 
 pub returns-in-Stray : goal.returns-in-Stray
 returns-in-Stray g c =
-    subst (λ r. Scans g.S.Source.model hex_of (g.S.Source.held c.args.source.now) c.args.area.now (Err r) (g.S.Source.held c.next_byte.new.source) c.loop-b.area) (sym c.of.ensures)
-    (hexed_stray g.S.Source.model g.S.Source.lawful _ _ _ _ _ _ c.loop-b.pending c.in-Ok.b c.loop-b.invariant c.in-Ok.ensures c.in-Stray.ensures.is)
+    let y = reads_passed _ _ g.S.Source.model byte_of _ _ _ _ c.next_byte.ensures c.in_ok-b.ensures.cases c.in_ok-b.ensures.variant in
+    hexed_stray g.S.Source.model g.met.S.Source.lawful _ _ _ _ _ _ c.loop-b.pending c.in_ok-b.b c.loop-b.invariant y c.in-Stray.ensures
 
 pub loop-b-preserved-in-Wait : goal.loop-b-preserved-in-Wait
-loop-b-preserved-in-Wait g c = hexed_wait g.S.Source.model g.S.Source.lawful _ _ _ _ _ _ c.loop-b.pending c.in-Ok.b c.loop-b.invariant c.in-Ok.ensures c.in-Wait.half c.in-Wait.ensures.is c.in-Wait.ensures.half
-
-pub returns-then-n-area : goal.returns-then-n-area
-returns-then-n-area g c =
-    let e : c.loop-b.n ≡ length c.args.area.now = omega (arith, c.if-n-area.true, c.loop-b.auto.area) in
-    subst (λ r. Scans g.S.Source.model hex_of (g.S.Source.held c.args.source.now) c.args.area.now (Err r) (g.S.Source.held c.next_byte.new.source) c.loop-b.area) (sym c.of-then-n-area.ensures)
-    (hexed_put_full g.S.Source.model g.S.Source.lawful _ _ _ _ _ _ c.loop-b.pending c.in-Ok.b c.loop-b.invariant c.in-Ok.ensures c.in-Put.v c.in-Put.ensures.is e)
+loop-b-preserved-in-Wait g c =
+    let y = reads_passed _ _ g.S.Source.model byte_of _ _ _ _ c.next_byte.ensures c.in_ok-b.ensures.cases c.in_ok-b.ensures.variant in
+    hexed_wait g.S.Source.model g.met.S.Source.lawful _ _ _ _ _ _ c.loop-b.pending c.in_ok-b.b c.loop-b.invariant y c.in-Wait.half c.in-Wait.ensures
 
 pub loop-b-preserved : goal.loop-b-preserved
 loop-b-preserved g c =
-    let lt : c.loop-b.n < length c.loop-b.area = omega (arith, c.if-n-area.false, c.loop-b.invariant.written.within) in
-    let ne : c.loop-b.n ≡ length c.args.area.now → ⊥ = λ e. omega (arith, c.loop-b.auto.area) in
-    hexed_put g.S.Source.model g.S.Source.lawful _ _ _ _ _ _ c.loop-b.pending c.in-Ok.b c.loop-b.invariant c.in-Ok.ensures c.in-Put.v c.in-Put.ensures.is lt ne
-
-pub returns-then-n-area-2 : goal.returns-then-n-area-2
-returns-then-n-area-2 g c =
-    let e : c.loop-b.n ≡ length c.args.area.now = omega (arith, c.if-n-area-2.true, c.loop-b.auto.area) in
-    subst (λ r. Scans g.S.Source.model hex_of (g.S.Source.held c.args.source.now) c.args.area.now (Err r) (g.S.Source.held c.next_byte.new.source) c.loop-b.area) (sym c.of-then-n-area-2.ensures)
-    (hexed_last_full g.S.Source.model g.S.Source.lawful _ _ _ _ _ _ c.loop-b.pending c.in-Ok.b c.loop-b.invariant c.in-Ok.ensures c.in-Last.v c.in-Last.ensures.is e)
+    let y = reads_passed _ _ g.S.Source.model byte_of _ _ _ _ c.next_byte.ensures c.in_ok-b.ensures.cases c.in_ok-b.ensures.variant in
+    hexed_put g.S.Source.model g.met.S.Source.lawful _ _ _ _ _ _ c.loop-b.pending c.in_ok-b.b c.loop-b.invariant y c.in-Put.v c.in_ok-n-in-Put.n _ c.in-Put.ensures c.loop-b.auto.area c.in_ok-n-in-Put.ensures
 
 pub returns-in-Last : goal.returns-in-Last
 returns-in-Last g c =
-    let lt : c.loop-b.n < length c.loop-b.area = omega (arith, c.if-n-area-2.false, c.loop-b.invariant.written.within) in
-    let ne : c.loop-b.n ≡ length c.args.area.now → ⊥ = λ e. omega (arith, c.loop-b.auto.area) in
-    hexed_last g.S.Source.model g.S.Source.lawful _ _ _ _ _ _ c.loop-b.pending c.in-Ok.b c.loop-b.invariant c.in-Ok.ensures c.in-Last.v c.in-Last.ensures.is lt ne
+    let y = reads_passed _ _ g.S.Source.model byte_of _ _ _ _ c.next_byte.ensures c.in_ok-b.ensures.cases c.in_ok-b.ensures.variant in
+    hexed_last g.S.Source.model g.met.S.Source.lawful _ _ _ _ _ _ c.loop-b.pending c.in_ok-b.b c.loop-b.invariant y c.in-Last.v c.put-in-Last.result _ c.in-Last.ensures c.loop-b.auto.area c.put-in-Last.ensures
+
+pub returns-in_err-n-in-Put : goal.returns-in_err-n-in-Put
+returns-in_err-n-in-Put g c =
+    let p = err_from_is_err_and c.from_residual-in_err-n-in-Put.result c.from_residual-in_err-n-in-Put.ensures.1 in
+    let y = reads_passed _ _ g.S.Source.model byte_of _ _ _ _ c.next_byte.ensures c.in_ok-b.ensures.cases c.in_ok-b.ensures.variant in
+    rw (p.1, p.2)
+    (hexed_put_full g.S.Source.model g.met.S.Source.lawful _ _ _ _ _ _ c.loop-b.pending c.in_ok-b.b c.loop-b.invariant y c.in-Put.v c.in_err-n-in-Put.field-0.0 _ c.in-Put.ensures c.loop-b.auto.area c.in_err-n-in-Put.ensures)

@@ -2,24 +2,15 @@ use Rattle.std.proofs.Common.{Ok, refl, ap}
 use Rattle.source.proofs.Calls.{reads_then, reads_as}
 use Rattle.scanner.specs.declared.pieces.Piece.TheVariants as piece
 use Rattle.scanner.specs.declared.pieces.Escape.TheVariants as escape
-use Rattle.scanner.specs.Takes.{byte_of, take_if_of}
+use Rattle.scanner.specs.Takes.{byte_of}
 use Rattle.scanner.specs.Pieces.{number_of, escape_of}
-use Rattle.scanner.proofs.PieceUses.{steady_byte, steady_take_if, steady_number, escape_at}
+use Rattle.scanner.proofs.PieceUses.{steady_byte, steady_number, escape_at}
 use Rattle.scanner.proofs.pieces.escaped.Goals as goal
-
-pub returns-in-Return : goal.returns-in-Return
-returns-in-Return g c =
-    let m = g.S.Source.model in
-    let l = g.S.Source.lawful in
-    let h = g.S.Source.held c.args.source.now in
-    let a = c.in_ok-b.ensures in
-    let b = reads_then m l byte_of h _ _ (take_if_of 10) c.take_if.result _ (steady_byte _ _) (steady_take_if 10) a c.take_if.ensures in
-    reads_as m l _ h _ _ escape_of (Ok piece.Nothing) _ b (escape_at (m.rest h) (m.ending h) c.in_ok-b.b escape.Return a.answer c.in-Return.ensures.is) refl refl refl
 
 pub returns-in-Octal : goal.returns-in-Octal
 returns-in-Octal g c =
     let m = g.S.Source.model in
-    let l = g.S.Source.lawful in
+    let l = g.met.S.Source.lawful in
     let h = g.S.Source.held c.args.source.now in
     let d = c.in-Octal.d in
     let a = c.in_ok-b.ensures in

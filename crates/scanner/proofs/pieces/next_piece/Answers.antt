@@ -9,7 +9,7 @@ use Rattle.scanner.proofs.pieces.next_piece.Goals as goal
 pub returns-in-Escape : goal.returns-in-Escape
 returns-in-Escape g c =
     let m = g.S.Source.model in
-    let l = g.S.Source.lawful in
+    let l = g.met.S.Source.lawful in
     let h = g.S.Source.held c.args.source.now in
     let a = c.in_ok-b.ensures in
     let b = reads_then m l byte_of h _ _ escape_of c.escaped.result _ (steady_byte _ _) steady_escape a c.escaped.ensures in

@@ -1,34 +1,46 @@
-use Rattle.std.proofs.Common.{◌≡◌, ◌<◌, length, Err, sym, subst, arith}
-use Rattle.scanner.specs.Scan.{Scans}
-use Rattle.scanner.specs.Strings.{string_of}
-use Rattle.scanner.proofs.StringUses.{strung_start, strung_fewer, strung_pass, strung_put, strung_done, strung_full, strung_err}
+use Rattle.std.proofs.Common.{subst, rules}
+use Rattle.std.proofs.lemmas.Result.{err_from_is_err_and, MatchResult-weaker}
+use Rattle.source.specs.Reads.{Reads}
+use Rattle.scanner.specs.Pieces.{piece_of}
+use Rattle.scanner.proofs.Mapped.{reads_passed, stopped}
+use Rattle.scanner.proofs.StringUses.{strung_fewer, strung_pass, strung_put, strung_done, strung_full, strung_err}
 use Rattle.scanner.proofs.strings.string.Goals as goal
 
-pub loop-piece-init : goal.loop-piece-init
-loop-piece-init g c = strung_start g.S.Source.model g.S.Source.lawful (g.S.Source.held c.args.source.now) c.args.area.now
-
-pub returns-in-Err : goal.returns-in-Err
-returns-in-Err g c = strung_err g.S.Source.model g.S.Source.lawful _ _ _ _ _ _ c.loop-piece.depth c.in-Err.fault c.loop-piece.invariant c.in-Err.ensures
-
 pub returns-in-Done : goal.returns-in-Done
-returns-in-Done g c = strung_done g.S.Source.model g.S.Source.lawful _ _ _ _ _ _ c.loop-piece.depth c.in-Ok.piece c.loop-piece.invariant c.in-Ok.ensures c.in-Done.ensures.is
+returns-in-Done g c =
+    let y = reads_passed _ _ g.S.Source.model piece_of _ _ _ _ c.next_piece.ensures c.in_ok-piece.ensures.cases c.in_ok-piece.ensures.variant in
+    strung_done g.S.Source.model g.met.S.Source.lawful _ _ _ _ _ _ c.loop-piece.depth c.in_ok-piece.piece c.loop-piece.invariant y c.in-Done.ensures.is
 
 pub loop-piece-smaller-in-Pass : goal.loop-piece-smaller-in-Pass
-loop-piece-smaller-in-Pass g c = strung_fewer g.S.Source.model g.S.Source.lawful _ _ _ _ _ _ c.loop-piece.depth c.in-Ok.piece c.loop-piece.invariant c.in-Ok.ensures
+loop-piece-smaller-in-Pass g c =
+    let y = reads_passed _ _ g.S.Source.model piece_of _ _ _ _ c.next_piece.ensures c.in_ok-piece.ensures.cases c.in_ok-piece.ensures.variant in
+    strung_fewer g.S.Source.model g.met.S.Source.lawful _ _ _ _ _ _ c.loop-piece.depth c.in_ok-piece.piece c.loop-piece.invariant y
 
 pub loop-piece-preserved-in-Pass : goal.loop-piece-preserved-in-Pass
-loop-piece-preserved-in-Pass g c = strung_pass g.S.Source.model g.S.Source.lawful _ _ _ _ _ _ c.loop-piece.depth c.in-Ok.piece c.loop-piece.invariant c.in-Ok.ensures c.in-Pass.ensures.is
-
-pub returns-then-n-area : goal.returns-then-n-area
-returns-then-n-area g c =
-    let e : c.loop-piece.n ≡ length c.args.area.now = omega (arith, c.if-n-area.true, c.loop-piece.auto.area) in
-    subst (λ r. Scans g.S.Source.model string_of (g.S.Source.held c.args.source.now) c.args.area.now (Err r) (g.S.Source.held c.next_piece.new.source) c.loop-piece.area) (sym c.of.ensures) (strung_full g.S.Source.model g.S.Source.lawful _ _ _ _ _ _ c.loop-piece.depth c.in-Ok.piece c.loop-piece.invariant c.in-Ok.ensures c.in-Put.b c.in-Put.to c.in-Put.ensures.is e)
+loop-piece-preserved-in-Pass g c =
+    let y = reads_passed _ _ g.S.Source.model piece_of _ _ _ _ c.next_piece.ensures c.in_ok-piece.ensures.cases c.in_ok-piece.ensures.variant in
+    strung_pass g.S.Source.model g.met.S.Source.lawful _ _ _ _ _ _ c.loop-piece.depth c.in_ok-piece.piece c.loop-piece.invariant y c.in-Pass.ensures.is
 
 pub loop-piece-smaller : goal.loop-piece-smaller
-loop-piece-smaller g c = strung_fewer g.S.Source.model g.S.Source.lawful _ _ _ _ _ _ c.loop-piece.depth c.in-Ok.piece c.loop-piece.invariant c.in-Ok.ensures
+loop-piece-smaller g c =
+    let y = reads_passed _ _ g.S.Source.model piece_of _ _ _ _ c.next_piece.ensures c.in_ok-piece.ensures.cases c.in_ok-piece.ensures.variant in
+    strung_fewer g.S.Source.model g.met.S.Source.lawful _ _ _ _ _ _ c.loop-piece.depth c.in_ok-piece.piece c.loop-piece.invariant y
 
 pub loop-piece-preserved : goal.loop-piece-preserved
 loop-piece-preserved g c =
-    let lt : c.loop-piece.n < length c.loop-piece.area = omega (arith, c.if-n-area.false, c.loop-piece.invariant.written.within) in
-    let ne : c.loop-piece.n ≡ length c.args.area.now → ⊥ = λ e. omega (arith, c.loop-piece.auto.area) in
-    strung_put g.S.Source.model g.S.Source.lawful _ _ _ _ _ _ c.loop-piece.depth c.in-Ok.piece c.loop-piece.invariant c.in-Ok.ensures c.in-Put.b c.in-Put.to c.in-Put.ensures.is lt ne c.in-Put.ensures.level
+    let y = reads_passed _ _ g.S.Source.model piece_of _ _ _ _ c.next_piece.ensures c.in_ok-piece.ensures.cases c.in_ok-piece.ensures.variant in
+    strung_put g.S.Source.model g.met.S.Source.lawful _ _ _ _ _ _ c.loop-piece.depth c.in_ok-piece.piece c.loop-piece.invariant y c.in-Put.b c.in-Put.to c.in_ok-n-in-Put.n _ c.in-Put.ensures.is c.loop-piece.auto.area c.in-Put.ensures.level c.in_ok-n-in-Put.ensures
+
+pub returns-in_err-piece : goal.returns-in_err-piece
+returns-in_err-piece g c =
+    let p = err_from_is_err_and c.from_residual.result c.from_residual.ensures.1 in
+    let q = stopped c.loop-piece.n c.next_piece.result c.in_err-piece.field-0.0 (MatchResult-weaker c.next_piece.result c.in_err-piece.ensures.cases (λ x k. k) (λ f k. search rules)) c.in_err-piece.ensures.variant in
+    let y = subst (λ r. Reads g.S.Source.model piece_of (g.S.Source.held c.loop-piece.source) r (g.S.Source.held c.next_piece.new.source)) q.1 c.next_piece.ensures in
+    rw (p.1, p.2, q.2) (strung_err g.S.Source.model g.met.S.Source.lawful _ _ _ _ _ _ c.loop-piece.depth q.0 c.loop-piece.invariant y)
+
+pub returns-in_err-n-in-Put : goal.returns-in_err-n-in-Put
+returns-in_err-n-in-Put g c =
+    let p = err_from_is_err_and c.from_residual-in_err-n-in-Put.result c.from_residual-in_err-n-in-Put.ensures.1 in
+    let y = reads_passed _ _ g.S.Source.model piece_of _ _ _ _ c.next_piece.ensures c.in_ok-piece.ensures.cases c.in_ok-piece.ensures.variant in
+    rw (p.1, p.2)
+    (strung_full g.S.Source.model g.met.S.Source.lawful _ _ _ _ _ _ c.loop-piece.depth c.in_ok-piece.piece c.loop-piece.invariant y c.in-Put.b c.in-Put.to c.in_err-n-in-Put.field-0.0 _ c.in-Put.ensures.is c.loop-piece.auto.area c.in_err-n-in-Put.ensures)

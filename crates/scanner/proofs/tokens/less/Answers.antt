@@ -1,11 +1,17 @@
-use Rattle.std.proofs.Common.{Ok, subst}
+use Rattle.std.proofs.Common.{Ok, subst, rules}
+use Rattle.std.proofs.lemmas.Result.{MatchResult-weaker}
+use Rattle.scanner.specs.declared.kinds.Kind.TheVariants.{HexString}
 use Rattle.source.specs.Reads.{Reads}
-use Rattle.scanner.specs.Tokens.{doubled_of}
+use Rattle.scanner.specs.Takes.{take_if_of}
+use Rattle.scanner.specs.HexStrings.{hex_of}
+use Rattle.scanner.proofs.Mapped.{tokened_map, scans_token}
 use Rattle.scanner.proofs.TokenUses.{less_hex}
 use Rattle.scanner.proofs.tokens.less.Goals as goal
 
-pub returns : goal.returns
-returns g c =
-    less_hex g.S.Source.model g.S.Source.lawful _ _ _ _ _ c.hex_token.result
-    (subst (λ twice. Reads g.S.Source.model (doubled_of 60) (g.S.Source.held c.args.source.now) (Ok twice) (g.S.Source.held c.doubled.new.source)) c.if-twice.false c.in_ok-twice.ensures)
-    c.hex_token.ensures
+pub returns-in-Ok-false : goal.returns-in-Ok-false
+returns-in-Ok-false g c =
+    let e = tokened_map HexString c.hex_string.result c.map.result
+    (MatchResult-weaker c.hex_string.result c.map.ensures.cases (λ n p. search rules) (λ f p. p)) in
+    less_hex g.S.Source.model g.met.S.Source.lawful _ _ _ _ _ c.map.result
+    (subst (λ b. Reads g.S.Source.model (take_if_of 60) (g.S.Source.held c.args.source.now) (Ok b) (g.S.Source.held c.take_if.new.source)) c.in-Ok-false.field-0-test c.in-Ok-false.ensures)
+    (scans_token g.S.Source.model hex_of _ _ _ _ c.hex_string.result HexString c.map.result e c.hex_string.ensures)

@@ -1,10 +1,6 @@
-use Rattle.std.proofs.Common.{◌-◌, length}
 use Rattle.speed.proofs.FillUses.{Filling}
 use Rattle.speed.proofs.filling.fill.Given as goal
 
 abbrev pub invariant-loop-n : goal.invariant-loop-n
 invariant-loop-n g l =
     Filling g.S.Source.model (g.S.Source.held l.initial.source) (g.S.Source.held l.source) l.initial.area l.area l.n
-
-abbrev pub decreases-loop-n : goal.decreases-loop-n
-decreases-loop-n g l = length l.initial.area - l.n

@@ -1,6 +1,8 @@
-use Rattle.std.proofs.Common.{refl}
 use Rattle.ascii.proofs.Ascii85Lawful.{a85_law, a85_worked}
 use Rattle.ascii.proofs.ascii85.Ascii85.new.Goals as goal
 
-pub returns : goal.returns
-returns c = record { holds = refl; laws = a85_law; examples = a85_worked }
+pub returns-clause-laws : goal.returns-clause-laws
+returns-clause-laws c = a85_law
+
+pub returns-clause-examples : goal.returns-clause-examples
+returns-clause-examples c = a85_worked

@@ -1,6 +1,8 @@
-use Rattle.std.proofs.Common.{refl}
 use Rattle.ascii.proofs.AsciiHexLawful.{ascii_hex_law, worked_hex}
 use Rattle.ascii.proofs.asciihex.AsciiHex.new.Goals as goal
 
-pub returns : goal.returns
-returns c = record { holds = refl; laws = ascii_hex_law; examples = worked_hex }
+pub returns-clause-laws : goal.returns-clause-laws
+returns-clause-laws c = ascii_hex_law
+
+pub returns-clause-examples : goal.returns-clause-examples
+returns-clause-examples c = worked_hex

@@ -1,21 +1,18 @@
-use Rattle.std.proofs.Common.{◌≡◌, refl, ap, ◌∙◌}
-use Rattle.eexec.specs.declared.cipherbytes.Form.TheVariants.{Hex, Binary}
-use Rattle.eexec.specs.Eexec.{eexec_state, form_of, key_behind}
-use Rattle.eexec.proofs.EexecUses.{begin_cut, begin_whole}
+use Rattle.std.proofs.Common.{sym, subst}
+use Rattle.source.specs.Reads.{Reads}
+use Rattle.eexec.specs.Eexec.{eexec_state, head_of}
+use Rattle.eexec.proofs.Errors.{was_ok}
+use Rattle.eexec.proofs.EexecUses.{begin_hex, begin_binary}
 use Rattle.eexec.proofs.eexec.Eexec.begin.Goals as goal
 
-pub returns-in-Err : goal.returns-in-Err
-returns-in-Err g c =
-    begin_cut g.S.Source.model g.S.Source.lawful _ _ (eexec_state c.args.self.now) c.in-Err.ending c.ending_above.result c.in-Err.ensures c.ending_above.ensures
+pub returns-in-Some : goal.returns-in-Some
+returns-in-Some g c =
+    begin_hex g.S.Source.model g.met.S.Source.lawful _ _ (eexec_state c.args.self.now) c.in_ok-head.head c.pass.new.self.key _ _
+    (subst (λ r. Reads g.S.Source.model head_of (g.S.Source.held c.args.below.now) r (g.S.Source.held c.take_head.new.below))
+    (sym (was_ok _ _ _ _ c.map_err.ensures.cases c.map_err.ensures.variant c.in_ok-head.was)) c.take_head.ensures) c.in-Some.bytes c.in-Some.ensures c.pass.ensures c.next_hex.ensures
 
-pub returns-in-Hex : goal.returns-in-Hex
-returns-in-Hex g c =
-    let p : Hex ≡ form_of c.in-Ok.head = cc in
-    begin_whole g.S.Source.model g.S.Source.lawful _ _ (eexec_state c.args.self.now) c.in-Ok.head Hex 2 c.pass.new.cipher.key _ _
-    c.in-Ok.ensures p refl (c.pass.ensures ∙ ap (λ f. key_behind f c.in-Ok.head c.args.self.now.cipher.key) c.in-Hex.is) c.next_hex.ensures
-
-pub returns-in-Binary : goal.returns-in-Binary
-returns-in-Binary g c =
-    let p : Binary ≡ form_of c.in-Ok.head = cc in
-    begin_whole g.S.Source.model g.S.Source.lawful _ _ (eexec_state c.args.self.now) c.in-Ok.head Binary 0 c.pass.new.cipher.key _ _
-    c.in-Ok.ensures p refl (c.pass.ensures ∙ ap (λ f. key_behind f c.in-Ok.head c.args.self.now.cipher.key) c.in-Binary.is) c.next_binary.ensures
+pub returns-in-None : goal.returns-in-None
+returns-in-None g c =
+    begin_binary g.S.Source.model g.met.S.Source.lawful _ _ (eexec_state c.args.self.now) c.in_ok-head.head c.pass-in-None.new.self.key _ _
+    (subst (λ r. Reads g.S.Source.model head_of (g.S.Source.held c.args.below.now) r (g.S.Source.held c.take_head.new.below))
+    (sym (was_ok _ _ _ _ c.map_err.ensures.cases c.map_err.ensures.variant c.in_ok-head.was)) c.take_head.ensures) c.in-None.ensures c.pass-in-None.ensures c.next_binary.ensures

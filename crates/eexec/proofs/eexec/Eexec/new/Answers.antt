@@ -1,6 +1,8 @@
-use Rattle.std.proofs.Common.{rules}
 use Rattle.eexec.proofs.EexecLawful.{eexec_law, eexec_worked}
 use Rattle.eexec.proofs.eexec.Eexec.new.Goals as goal
 
-pub returns : goal.returns
-returns c = record { holds = search rules; laws = eexec_law; examples = eexec_worked }
+pub returns-clause-laws : goal.returns-clause-laws
+returns-clause-laws c = eexec_law
+
+pub returns-clause-examples : goal.returns-clause-examples
+returns-clause-examples c = eexec_worked

@@ -7,12 +7,12 @@ use Rattle.subfile.proofs.subfile.SubFile.compare.Goals as goal
 
 pub returns-in-Equals : goal.returns-in-Equals
 returns-in-Equals g c =
-    compare_equals g.S.Source.model g.S.Source.lawful _ _ _ (sub_holds c.loop-self.self) _ c.loop-self.invariant _ c.settle.ensures.compared _
+    compare_equals g.S.Source.model g.met.S.Source.lawful _ _ _ (sub_holds c.loop-self.self) _ c.loop-self.invariant _ c.settle.ensures.compared _
     (c.in-Equals.ensures ∙ ap₂ judged c.as_slice.ensures c.compared.ensures) c.instance.ensures
 
 pub returns-in-Fails : goal.returns-in-Fails
 returns-in-Fails g c =
-    compare_fails g.S.Source.model g.S.Source.lawful _ _ _ (sub_holds c.loop-self.self) _ c.loop-self.invariant _ c.settle.ensures.compared _
+    compare_fails g.S.Source.model g.met.S.Source.lawful _ _ _ (sub_holds c.loop-self.self) _ c.loop-self.invariant _ c.settle.ensures.compared _
     (c.in-Fails.ensures ∙ ap₂ judged c.as_slice.ensures c.compared.ensures)
     (released (sub_holds c.loop-self.self) _ _ c.release_first.ensures.ready c.release_first.ensures.compared)
 
@@ -24,7 +24,7 @@ hold-requires g c =
 
 pub loop-self-preserved : goal.loop-self-preserved
 loop-self-preserved g c =
-    compare_on g.S.Source.model g.S.Source.lawful _ _ _ (sub_holds c.loop-self.self) _ c.loop-self.invariant _ c.in-Byte.b
+    compare_on g.S.Source.model g.met.S.Source.lawful _ _ _ (sub_holds c.loop-self.self) _ c.loop-self.invariant _ c.in-Ok.b
     (ready_of c.hold.new.self) (compared_of c.hold.new.self) _
-    (c.in-Starts.ensures ∙ ap₂ judged c.as_slice.ensures c.compared.ensures) c.in-Byte.ensures.answer c.take.ensures.after
+    (c.in-Starts.ensures ∙ ap₂ judged c.as_slice.ensures c.compared.ensures) c.in-Ok.ensures.answer c.take.ensures.after
     c.hold.ensures.compared c.hold.ensures.filled

@@ -1,7 +1,9 @@
-use Rattle.std.proofs.Common.{rules}
 use Rattle.subfile.proofs.SubFileLawful.{sub_laws}
 use Rattle.subfile.proofs.SubFileExampled.{sub_examples}
 use Rattle.subfile.proofs.subfile.SubFile.new.Goals as goal
 
-pub returns : goal.returns
-returns c = record { holds = search rules; laws = sub_laws; examples = sub_examples }
+pub returns-clause-laws : goal.returns-clause-laws
+returns-clause-laws c = sub_laws
+
+pub returns-clause-examples : goal.returns-clause-examples
+returns-clause-examples c = sub_examples

@@ -1,0 +1,82 @@
+-- What the texts of a case say.
+use Rattle.std.specs.Prelude.{ℕ, ◌==◌, ◌^◌, ◌&&◌, nat_lt, if◌then◌else◌, List, [], ◌∷◌, ◌++◌, length, map, codes, bytes_eq, Option, Some, None, option_map, option_and_then}
+use Rattle.std.specs.Option.{option_map_or}
+use Rattle.std.specs.Result.{result_ok}
+use Rattle.std.specs.List.{position_or_len, before_first, after_first, slice_split, repeat}
+use Rattle.std.specs.Str.{all_ascii_digits}
+use Rattle.std.specs.Str.Parse.{without_leading_plus, digits_value}
+use Rattle.hex.specs.Hex.{decode_of}
+use Rattle.hex.specs.declared.error.FromHexError.{FromHexError}
+use Rattle.hex.specs.declared.error.FromHexError.TheVariants as hex_error
+use Rattle.source.specs.Numbers.{damage_numbered}
+use Rattle.source.specs.declared.ending.Damage.{Damage}
+use Rattle.source.specs.declared.ending.Ending.{Ending}
+use Rattle.source.specs.declared.ending.Ending.TheVariants.{Clean, Damaged}
+use Rattle.given.specs.declared.reading.ReadError.{ReadError}
+use Rattle.given.specs.declared.reading.ReadError.TheVariants.{NoEnding, NoBytes, OutOfMemory}
+
+-- the number that decimal digits write, if it is below a limit; none without a digit, and none if another byte stands there
+abbrev pub numeral_of : ℕ → List ℕ → Option ℕ
+numeral_of limit digits =
+    if nat_lt 0 (length digits) && (all_ascii_digits digits && nat_lt (digits_value 10 digits) limit)
+    then Some (digits_value 10 digits) else None
+
+-- the same where a plus may stand before the digits
+abbrev pub number_of : ℕ → List ℕ → Option ℕ
+number_of limit text = numeral_of limit (without_leading_plus text)
+
+-- what stands on either side of the first byte c of a text, if it has one
+abbrev pub sides : ℕ → List ℕ → Option (List ℕ × List ℕ)
+sides c text =
+    if position_or_len (λ b. b == c) text == length text then None
+    else Some (before_first (λ b. b == c) text, after_first (λ b. b == c) text)
+
+-- the damage whose number a text writes
+abbrev pub damage_of : List ℕ → Option Damage
+damage_of text = option_and_then (λ n. result_ok (damage_numbered n)) (number_of 256 text)
+
+-- the ending of a damage's number and a depth, which is below 256
+abbrev pub damaged_of : List ℕ × List ℕ → Option Ending
+damaged_of p = option_and_then (λ damage. option_map (Damaged damage) (number_of 256 p.1)) (damage_of p.0)
+
+-- the ending that a text names: `clean`, or a damage's number, a slash and a depth
+abbrev pub ending_of : List ℕ → Option Ending
+ending_of text = if bytes_eq text (codes "clean") then Some Clean else option_and_then damaged_of (sides 47 text)
+
+-- the bytes of pairs of hexadecimal digits, of either case
+abbrev pub pairs_of : List ℕ → Option (List ℕ)
+pairs_of text = result_ok (decode_of text)
+
+-- the bytes of pairs of digits, and of a number, which says how often they come
+abbrev pub repeated_of : List ℕ × List ℕ → Option (List ℕ)
+repeated_of p = option_and_then (λ once. option_map (λ n. repeat n once) (number_of (2 ^ 64) p.1)) (pairs_of p.0)
+
+-- the bytes of a part: pairs of digits, which come once, or as often as the number behind an `x` says
+abbrev pub part_of : List ℕ → Option (List ℕ)
+part_of text = option_map_or repeated_of (sides 120 text) (pairs_of text)
+
+-- one after another, if each is there
+abbrev pub joined : List (Option (List ℕ)) → Option (List ℕ)
+joined [] = Some []
+joined (part ∷ parts) = option_and_then (λ front. option_map (λ back. front ++ back) (joined parts)) part
+
+-- the parts of a text, between which its points stand
+abbrev pub parts_of : List ℕ → List (List ℕ)
+parts_of text = slice_split (λ b. b == 46) text
+
+-- the bytes that a text gives: none for `-`, else those of its parts
+abbrev pub bytes_of : List ℕ → Option (List ℕ)
+bytes_of text =
+    if bytes_eq text (codes "-") then Some []
+    else joined (map part_of (parts_of text))
+
+-- what an error of the pairs of digits is here
+abbrev pub why_no_hex : FromHexError → ReadError
+why_no_hex hex_error.OutOfMemory = OutOfMemory
+why_no_hex _ = NoBytes
+
+-- an error as it is printed
+abbrev pub error_text : ReadError → List ℕ
+error_text NoEnding = codes "no ending"
+error_text NoBytes = codes "no bytes"
+error_text OutOfMemory = codes "out of memory"

@@ -1,4 +1,5 @@
-use Rattle.std.proofs.Common.{◌≡◌, ℕ, List, [], None, Option, sym, refl, ap, ◌∙◌, Ok}
+use Rattle.std.proofs.Common.{◌≡◌, ℕ, List, [], Some, None, Option, sym, refl, ap, ◌∙◌, Ok}
+use Rattle.std.specs.Option.{option_to_list}
 use Rattle.source.specs.declared.ending.Ending.{Ending}
 use Rattle.source.specs.declared.hex.HexTurn.{HexTurn}
 use Rattle.source.specs.declared.hex.HexTurn.TheVariants.{Wait}
@@ -9,7 +10,10 @@ use Rattle.source.specs.Reads.{Reads}
 use Rattle.source.proofs.Walk.{Walk, walk_took}
 use Rattle.source.proofs.Calls.{reads_took}
 use Rattle.decoding.specs.Step.{Own, makes}
+use Rattle.ascii.specs.declared.made.Made.{Made}
+use Rattle.ascii.specs.Made.{own_made}
 use Rattle.ascii.specs.AsciiHex.{HexState, hex_turn, hex_at}
+use Rattle.ascii.proofs.MadeUses.{own_end}
 
 -- a turn of the loop: x was held at its start, and x' after a take
 module _
@@ -29,3 +33,10 @@ module _
   pair_stop {u} {ready} {o} {own} q is e =
       reads_took m l (hex_at None) h x x' _ k t own (makes tt ready o (m.rest x')) is b p
       (e ∙ ap (λ u. hex_turn u (m.rest x') (λ v. hex_at v (m.rest x') (m.ending h))) q) refl refl
+
+  -- a turn that makes an ending and no byte
+  pub pair_end : {u : HexTurn} {made : Made (Option ℕ)} {o : Ending} → u ≡ hex_turn_of pending (hex_byte_of b)
+      → made.ready ≡ None → made.ended ≡ Some o
+      → makes tt [] (Some o) (m.rest x') ≡ hex_turn u (m.rest x') (λ v. hex_at v (m.rest x') (m.ending h))
+      → Reads m (hex_at None) h (own_made option_to_list tt made) x'
+  pair_end {u} {made} q ready ended e = pair_stop q (own_end option_to_list made (ap option_to_list ready) ended) e

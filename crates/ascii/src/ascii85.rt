@@ -32,6 +32,7 @@ pub struct Ascii85 {
 }
 
 impl Ascii85 {
+    #[tactic(auto, using(crate::proofs::Ascii85Lawful::a85_law, crate::proofs::Ascii85Lawful::a85_worked))]
     pub fn new() -> Ascii85
         ensures holds { a85_holds result ≡ record { ready = []; compared = []; kind = tt } }
         ensures laws { Ascii85Law }
@@ -122,7 +123,7 @@ impl Group {
 
     // What they make behind `~`.
     fn close<S: Source>(self, below: &mut S) -> Made<Ready4>
-        ensures { (digits : List ℕ) → Pending digits self → Reads S.Source.model (a85_close digits) (S.Source.held below.old) (own_made listed tt result) (S.Source.held below.new) }
+        ensures { (digits : List ℕ) → Pending digits self → Reads S.model (a85_close digits) (S.held below.old) (own_made listed tt result) (S.held below.new) }
     {
         match take_mark(below) {
             Ok(()) => self.last(),
@@ -133,7 +134,7 @@ impl Group {
 
 // Takes what stands behind `~` up to `>`, or answers how it ends where `>` does not come.
 fn take_mark<S: Source>(below: &mut S) -> Result<(), Ending>
-    ensures { Reads S.Source.model a85_mark (S.Source.held below.old) result (S.Source.held below.new) }
+    ensures { Reads S.model a85_mark (S.held below.old) result (S.held below.new) }
 {
     loop {
         match below.take() {
@@ -145,9 +146,10 @@ fn take_mark<S: Source>(below: &mut S) -> Result<(), Ending>
     }
 }
 
-// Takes a group, or up to the end of the data.
+// Takes a group, or up to the end of the data. An ending from below is not passed on by `?`: what ends a step is made into what
+// the step made, a `Made`.
 fn next_group<S: Source>(below: &mut S) -> Made<Ready4>
-    ensures { Reads S.Source.model (a85_at []) (S.Source.held below.old) (own_made listed tt result) (S.Source.held below.new) }
+    ensures { Reads S.model (a85_at []) (S.held below.old) (own_made listed tt result) (S.held below.new) }
 {
     let mut group = Group::default();
     loop {

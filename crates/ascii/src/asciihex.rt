@@ -19,6 +19,7 @@ pub struct AsciiHex {
 
 impl AsciiHex {
     // Nothing is ready, and nothing has been taken.
+    #[tactic(auto, using(crate::proofs::AsciiHexLawful::ascii_hex_law, crate::proofs::AsciiHexLawful::worked_hex))]
     pub fn new() -> AsciiHex
         ensures holds { hex_holds result ≡ record { ready = []; compared = []; kind = tt } }
         ensures laws { AsciiHexLaw }
@@ -28,9 +29,10 @@ impl AsciiHex {
     }
 }
 
-// Takes two digits, or up to the end.
+// Takes two digits, or up to the end. An ending from below is not passed on by `?`: what ends a step is made into what the step
+// made, a `Made`.
 fn next_pair<S: Source>(below: &mut S) -> Made<Option<u8>>
-    ensures { Reads S.Source.model (hex_at None) (S.Source.held below.old) (own_made option_to_list tt result) (S.Source.held below.new) }
+    ensures { Reads S.model (hex_at None) (S.held below.old) (own_made option_to_list tt result) (S.held below.new) }
 {
     let mut pending = None;
     loop {
@@ -72,7 +74,7 @@ impl Kind for AsciiHex {
         made.ended
     }
 
-    // The last three are those of `Eexec` too: a line each, and a trait to share them would have more.
+    // The last three are those of `Eexec` too: a line each, and a trait or a type for what is ready would have more.
     fn first(&self) -> Option<u8> {
         self.ready
     }

@@ -25,7 +25,7 @@ impl Default for Ready4 {
 
 impl Ready4 {
     // The bytes of a number, the highest first, without so many of the last.
-    pub fn of_number(number: u32, missing: u8) -> Ready4
+    pub(crate) fn of_number(number: u32, missing: u8) -> Ready4
         requires { missing < 4 }
         ensures { listed result ≡ take (4 - missing) (bytes4 number) }
     {

@@ -62,7 +62,7 @@ impl fmt::Display for Answer {
                 write!(f, "fault {fault}")?;
                 self.show_area(n, f)
             }
-            Err(refused) => {
+            Err(refused @ Failure::Area) => {
                 write!(f, "refused {}", refused.number())?;
                 self.show_scribbles(0, f)
             }

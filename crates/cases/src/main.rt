@@ -41,15 +41,16 @@ fn play(heap: Global, case: &Case) -> anyhow::Result<String> {
     Ok(line)
 }
 
-// The program `filter_cases` has this loop too: one for both would take a closure, and be no shorter.
+// The program `filter_cases` has this loop too: one for both would bring the runtime and `anyhow` into a library.
 fn run(rt: &HostRuntime) -> anyhow::Result<()> {
     let heap = rt.alloc();
     let text = io::read_to_string(heap, rt.stdin())?;
-    for line in text.lines() {
-        if !line.is_empty() && !line.starts_with('#') {
-            let case = case::read_case(heap, line)?;
-            rt.println(play(heap, &case)?)?;
-        }
+    for line in text
+        .lines()
+        .filter(|line| !line.is_empty() && !line.starts_with('#'))
+    {
+        let case = case::read_case(heap, line)?;
+        rt.println(play(heap, &case)?)?;
     }
     Ok(())
 }

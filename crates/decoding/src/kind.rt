@@ -22,7 +22,7 @@ pub trait Kind {
 
     // Makes a step: what was ready is dropped, bytes become ready, or the filter ends, or both.
     fn step<S: Source>(&mut self, below: &mut S) -> Option<Ending>
-        ensures { Reads S.Source.model (step_from step_of (holds self.old)) (S.Source.held below.old) (own_of (holds self.new) result) (S.Source.held below.new) };
+        ensures { Reads S.model (step_from step_of (holds self.old)) (S.held below.old) (own_of (holds self.new) result) (S.held below.new) };
 
     // The byte that is ready first.
     fn first(&self) -> Option<u8>

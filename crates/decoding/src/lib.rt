@@ -1,6 +1,6 @@
 #![tactic(auto)]
 
-mod endings;
+pub mod endings;
 mod kind;
 
 pub use endings::{ending_above, ending_passed};

@@ -1,5 +1,7 @@
-use Rattle.std.proofs.Common.{◌≡◌, ℕ, zero, suc, Bool, true, false, cond, List, [], ◌∷◌, Some, None, Ok, Err, Result, sym, refl, ap, ◌∙◌}
+use Rattle.std.proofs.Common.{◌≡◌, ℕ, zero, suc, Bool, true, false, cond, List, [], ◌∷◌, Some, None, Ok, Err, Result, sym, subst, refl, ap, ◌∙◌}
 use Rattle.std.specs.List.{list_all}
+use Rattle.std.specs.Result.{MatchResult, IsErrAnd, is_ok}
+use Rattle.std.proofs.lemmas.Result.{err_from_is_err_and}
 use Rattle.source.specs.declared.ending.Ending.{Ending}
 use Rattle.source.specs.Model.{Model, first}
 use Rattle.source.specs.Laws.{Lawful}
@@ -13,6 +15,7 @@ use Rattle.eexec.specs.CipherBytes.{CipherByte, Whole, Missing, Broken, blank, c
 use Rattle.decoding.specs.Step.{Own}
 use Rattle.eexec.specs.Eexec.{EexecState, hexadecimal, digits_paired, hex_bytes_of, lead_of, cut, four_of, head_by, head_of, form_of, key_behind, still, plain_read_of, drop_by, behind_of, begin_by, begin_of}
 use Rattle.eexec.proofs.CipherBytesUses.{steady_cipher}
+use Rattle.eexec.proofs.Errors.{was_ok}
 
 pub steady_lead : (rest : List ℕ) (e : Ending) → Steady rest (lead_of rest e).left (lead_of rest e).peeked
 steady_lead [] e = steady_here []
@@ -26,8 +29,8 @@ steady_lead (b ∷ bs) e = at (steady_lead bs e) (blank b)
 
 -- a turn of the loop over blanks: x was held at its start, and x' after a take
 module _
-    {H : Type 0} (m : Model H) (l : Lawful H m) (h x x' : H)
-    (k : Walk m h x (λ r. lead_of r (m.ending h)) (lead_of (m.rest h) (m.ending h))) (t : x' ≡ m.taken x) (b : ℕ) (p : Ok b ≡ first (m.rest x) (m.ending x)) where
+    {H : Type 0} {m : Model H} (l : Lawful H m) {h x x' : H}
+    (k : Walk m h x (λ r. lead_of r (m.ending h)) (lead_of (m.rest h) (m.ending h))) (t : x' ≡ m.taken x) {b : ℕ} (p : Ok b ≡ first (m.rest x) (m.ending x)) where
   pub lead_on : true ≡ blank b → Walk m h x' (λ r. lead_of r (m.ending h)) (lead_of (m.rest h) (m.ending h))
   lead_on q =
       walk_took m l h x _ _ x' b (λ r. lead_of r (m.ending h)) k p t
@@ -38,17 +41,19 @@ module _
       reads_took m l lead_of h x x' _ k t (Ok b) (record { answer = Ok b; left = m.rest x'; peeked = false }) refl b p
       (ap (λ t. cond t (lead_of (m.rest x') (m.ending h)) (record { answer = Ok b; left = m.rest x'; peeked = false })) q) refl refl
 
--- the first four bytes: x is what is held behind the first
-module _ {H : Type 0} (m : Model H) (l : Lawful H m) (h x : H) where
+-- the first four bytes
+module _ {H : Type 0} {m : Model H} (l : Lawful H m) {h : H} where
   -- it ends behind those that `go` has
   head_cut :
-      (x x' : H) (go : List ℕ → Read (Result (List ℕ) Ending)) (z : Ending) → Walk m h x go (head_of (m.rest h) (m.ending h)) → x' ≡ m.taken x
-      → Err z ≡ first (m.rest x) (m.ending x) → cut (m.ending h) ≡ go [] → Reads m head_of h (Err z) x'
-  head_cut x x' go z k t p e =
-      reads_ended m l head_of h x x' go k t (Err z) (cut (m.ending h))
-      (ap Err (walk_stop_ended m l h x go _ x' z k p t).2) z p e refl refl
+      {x x' : H} (go : List ℕ → Read (Result (List ℕ) Ending)) {z : Ending} (r : Result (List ℕ) Ending) → Walk m h x go (head_of (m.rest h) (m.ending h)) → x' ≡ m.taken x
+      → Err z ≡ first (m.rest x) (m.ending x) → IsErrAnd r (λ e. e ≡ z) → cut (m.ending h) ≡ go [] → Reads m head_of h r x'
+  head_cut {x} {x'} go {z} r k t p q e =
+      let is = err_from_is_err_and r q in
+      reads_ended m l head_of h x x' go k t r (cut (m.ending h))
+      (is.1 ∙ (ap Err is.2 ∙ ap Err (walk_stop_ended m l h x go _ x' z k p t).2)) z p e refl refl
 
-  module _ (a : ℕ) (y : Reads m lead_of h (Ok a) x) where
+  -- x is what is held behind the first
+  module _ {x : H} {a : ℕ} (y : Reads m lead_of h (Ok a) x) where
     one : Walk m h x (λ r. four_of (a ∷ r) (m.ending h)) (head_of (m.rest h) (m.ending h))
     one =
         walk_on m l lead_of h h (Ok a) x (λ r. head_of r (m.ending h)) _ steady_lead (walk_start m l h (λ r. head_of r (m.ending h))) y
@@ -56,30 +61,30 @@ module _ {H : Type 0} (m : Model H) (l : Lawful H m) (h x : H) where
         (sym (ap (λ a. head_by a (lead_of (m.rest h) (m.ending h)) (m.ending h)) y.answer))
 
     -- only one
-    pub head_one : (x' : H) (z : Ending) → x' ≡ m.taken x → Err z ≡ first (m.rest x) (m.ending x) → Reads m head_of h (Err z) x'
-    head_one x' z t p = head_cut x x' (λ r. four_of (a ∷ r) (m.ending h)) z one t p refl
+    pub head_one : {x' : H} {z : Ending} (r : Result (List ℕ) Ending) → x' ≡ m.taken x → Err z ≡ first (m.rest x) (m.ending x) → IsErrAnd r (λ e. e ≡ z) → Reads m head_of h r x'
+    head_one r t p q = head_cut (λ r. four_of (a ∷ r) (m.ending h)) r one t p q refl
 
-    module _ (x₂ : H) (b : ℕ) (t₂ : x₂ ≡ m.taken x) (p₂ : Ok b ≡ first (m.rest x) (m.ending x)) where
+    module _ {x₂ : H} {b : ℕ} (t₂ : x₂ ≡ m.taken x) (p₂ : Ok b ≡ first (m.rest x) (m.ending x)) where
       two : Walk m h x₂ (λ r. four_of (a ∷ b ∷ r) (m.ending h)) (head_of (m.rest h) (m.ending h))
       two = walk_took m l h x (λ r. four_of (a ∷ r) (m.ending h)) _ x₂ b (λ r. four_of (a ∷ b ∷ r) (m.ending h)) one p₂ t₂ refl
 
       -- only two
-      pub head_two : (x' : H) (z : Ending) → x' ≡ m.taken x₂ → Err z ≡ first (m.rest x₂) (m.ending x₂) → Reads m head_of h (Err z) x'
-      head_two x' z t p = head_cut x₂ x' (λ r. four_of (a ∷ b ∷ r) (m.ending h)) z two t p refl
+      pub head_two : {x' : H} {z : Ending} (r : Result (List ℕ) Ending) → x' ≡ m.taken x₂ → Err z ≡ first (m.rest x₂) (m.ending x₂) → IsErrAnd r (λ e. e ≡ z) → Reads m head_of h r x'
+      head_two r t p q = head_cut (λ r. four_of (a ∷ b ∷ r) (m.ending h)) r two t p q refl
 
-      module _ (x₃ : H) (c : ℕ) (t₃ : x₃ ≡ m.taken x₂) (p₃ : Ok c ≡ first (m.rest x₂) (m.ending x₂)) where
+      module _ {x₃ : H} {c : ℕ} (t₃ : x₃ ≡ m.taken x₂) (p₃ : Ok c ≡ first (m.rest x₂) (m.ending x₂)) where
         three : Walk m h x₃ (λ r. four_of (a ∷ b ∷ c ∷ r) (m.ending h)) (head_of (m.rest h) (m.ending h))
         three = walk_took m l h x₂ (λ r. four_of (a ∷ b ∷ r) (m.ending h)) _ x₃ c (λ r. four_of (a ∷ b ∷ c ∷ r) (m.ending h)) two p₃ t₃ refl
 
         -- only three
-        pub head_three : (x' : H) (z : Ending) → x' ≡ m.taken x₃ → Err z ≡ first (m.rest x₃) (m.ending x₃) → Reads m head_of h (Err z) x'
-        head_three x' z t p = head_cut x₃ x' (λ r. four_of (a ∷ b ∷ c ∷ r) (m.ending h)) z three t p refl
+        pub head_three : {x' : H} {z : Ending} (r : Result (List ℕ) Ending) → x' ≡ m.taken x₃ → Err z ≡ first (m.rest x₃) (m.ending x₃) → IsErrAnd r (λ e. e ≡ z) → Reads m head_of h r x'
+        head_three r t p q = head_cut (λ r. four_of (a ∷ b ∷ c ∷ r) (m.ending h)) r three t p q refl
 
         -- all four
         pub head_four :
-            (x' : H) (d : ℕ) → x' ≡ m.taken x₃ → Ok d ≡ first (m.rest x₃) (m.ending x₃)
+            {x' : H} {d : ℕ} → x' ≡ m.taken x₃ → Ok d ≡ first (m.rest x₃) (m.ending x₃)
             → Reads m head_of h (Ok (a ∷ b ∷ c ∷ d ∷ [])) x'
-        head_four x' d t p =
+        head_four {x'} {d} t p =
             reads_took m l head_of h x₃ x' (λ r. four_of (a ∷ b ∷ c ∷ r) (m.ending h)) three t _ _ refl d p refl refl refl
 
 pub steady_plain : (form : Form) (key : ℕ) (rest : List ℕ) (e : Ending) → Steady rest (plain_read_of form key rest e).left (plain_read_of form key rest e).peeked
@@ -127,7 +132,7 @@ binary_head head p = by (list_all hexadecimal head) p
     by false p = refl
 
 -- the first step
-module _ {H : Type 0} (m : Model H) (l : Lawful H m) (h x : H) (k : EexecState) where
+module _ {H : Type 0} {m : Model H} (l : Lawful H m) {h x : H} (k : EexecState) where
   begin_whole :
       (head : List ℕ) (form : Form) (key : ℕ) (r : Own EexecState) (x' : H) → Reads m head_of h (Ok head) x → form ≡ form_of head → key ≡ key_behind form head k.key
       → Reads m (behind_of (still form) form key) x r x' → Reads m (begin_of k) h r x'
@@ -138,12 +143,18 @@ module _ {H : Type 0} (m : Model H) (l : Lawful H m) (h x : H) (k : EexecState) 
       ∙ (ap (λ f. behind_of (still f) f (key_behind f head k.key) (head_of (m.rest h) (m.ending h)).left (m.ending h)) p
       ∙ ap (λ a. begin_by k a (head_of (m.rest h) (m.ending h)) (m.ending h)) y.answer)) w.answer refl refl
 
-  -- in either form
-  module _ (head : List ℕ) (key : ℕ) (r : Own EexecState) (x' : H) (y : Reads m head_of h (Ok head) x) where
-    pub begin_hex : (bytes : List ℕ) → Some bytes ≡ hex_bytes_of head → key ≡ keys_after k.key bytes → Reads m (behind_of 2 Hex key) x r x' → Reads m (begin_of k) h r x'
-    begin_hex bytes p q z =
-        let e = hex_head head bytes p in
-        begin_whole head Hex key r x' y e.0 (q ∙ ap (keys_after k.key) e.1) z
+  -- in either form: the ending of what takes the first four bytes was changed
+  module _
+      {head : List ℕ} {taken changed : Result (List ℕ) Ending} (Q : Ending → Type 0)
+      (cases : MatchResult taken (λ y. changed ≡ Ok y) Q) (variant : is_ok changed ≡ is_ok taken) (was : changed ≡ Ok head)
+      (reads : Reads m head_of h taken x) where
+    reads_head : Reads m head_of h (Ok head) x
+    reads_head = subst (λ r. Reads m head_of h r x) (sym (was_ok Q cases variant was)) reads
 
-    pub begin_binary : None ≡ hex_bytes_of head → key ≡ keys_after k.key head → Reads m (behind_of 0 Binary key) x r x' → Reads m (begin_of k) h r x'
-    begin_binary p q z = begin_whole head Binary key r x' y (binary_head head p) q z
+    pub begin_hex : {bytes : List ℕ} {key : ℕ} {r : Own EexecState} {x' : H} → Some bytes ≡ hex_bytes_of head → key ≡ keys_after k.key bytes → Reads m (behind_of 2 Hex key) x r x' → Reads m (begin_of k) h r x'
+    begin_hex {bytes} {key} {r} {x'} p q z =
+        let e = hex_head head bytes p in
+        begin_whole head Hex key r x' reads_head e.0 (q ∙ ap (keys_after k.key) e.1) z
+
+    pub begin_binary : {key : ℕ} {r : Own EexecState} {x' : H} → None ≡ hex_bytes_of head → key ≡ keys_after k.key head → Reads m (behind_of 0 Binary key) x r x' → Reads m (begin_of k) h r x'
+    begin_binary {key} {r} {x'} p q z = begin_whole head Binary key r x' reads_head (binary_head head p) q z

@@ -21,6 +21,7 @@ pub struct Eexec {
 }
 
 impl Eexec {
+    #[tactic(auto, using(crate::proofs::EexecLawful::eexec_law, crate::proofs::EexecLawful::eexec_worked))]
     pub fn new() -> Eexec
         ensures holds { eexec_holds result ≡ record { ready = []; compared = []; kind = record { form = None; key = 55665 } } }
         ensures laws { EexecLaw }
@@ -35,10 +36,9 @@ impl Eexec {
 
     // Tells the form, drops four plain bytes and goes on to the fifth.
     fn begin<S: Source>(&mut self, below: &mut S) -> Result<u8, Ending>
-        ensures { Reads S.Source.model (begin_of (eexec_state self.old)) (S.Source.held below.old) (answer_of (eexec_state self.new) result) (S.Source.held below.new) }
+        ensures { Reads S.model (begin_of (eexec_state self.old)) (S.held below.old) (answer_of (eexec_state self.new) result) (S.held below.new) }
     {
-        // in a closure, since a function of another crate cannot be passed by its name
-        let head = take_head(below).map_err(|ending| ending_above(ending))?;
+        let head = take_head(below).map_err(ending_above)?;
         match hex_bytes(head) {
             Some(bytes) => {
                 self.form = Some(Form::Hex);
@@ -79,7 +79,7 @@ impl Kind for Eexec {
         next.err()
     }
 
-    // The last three are those of `AsciiHex` too: a line each, and a trait to share them would have more.
+    // The last three are those of `AsciiHex` too: a line each, and a trait or a type for what is ready would have more.
     fn first(&self) -> Option<u8> {
         self.ready
     }

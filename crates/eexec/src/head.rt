@@ -7,7 +7,7 @@ use source::{Ending, Source, digit, hex_pair};
 
 // Passes over blanks and takes the byte behind them.
 fn take_behind_blanks<S: Source>(below: &mut S) -> Result<u8, Ending>
-    ensures { Reads S.Source.model lead_of (S.Source.held below.old) result (S.Source.held below.new) }
+    ensures { Reads S.model lead_of (S.held below.old) result (S.held below.new) }
 {
     loop {
         let b = below.take()?;
@@ -19,7 +19,7 @@ fn take_behind_blanks<S: Source>(below: &mut S) -> Result<u8, Ending>
 
 // Takes the first four bytes behind blanks, which tell the form.
 pub(crate) fn take_head<S: Source>(below: &mut S) -> Result<[u8; 4], Ending>
-    ensures { Reads S.Source.model head_of (S.Source.held below.old) result (S.Source.held below.new) }
+    ensures { Reads S.model head_of (S.held below.old) result (S.held below.new) }
 {
     Ok([
         take_behind_blanks(below)?,

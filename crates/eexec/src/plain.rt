@@ -10,16 +10,15 @@ use source::{Damage, Ending, Source, digit, hex_pair};
 impl Cipher {
     // The next plain byte in the binary form.
     pub(crate) fn next_binary<S: Source>(&mut self, below: &mut S) -> Result<u8, Ending>
-        ensures { Reads S.Source.model (plain_read_of Binary self.old.key) (S.Source.held below.old) (answered Binary self.new.key result) (S.Source.held below.new) }
+        ensures { Reads S.model (plain_read_of Binary self.old.key) (S.held below.old) (answered Binary self.new.key result) (S.held below.new) }
     {
-        // in a closure, since a function of another crate cannot be passed by its name
-        let c = below.take().map_err(|ending| ending_passed(ending))?;
+        let c = below.take().map_err(ending_passed)?;
         Ok(self.decipher(c))
     }
 
     // Drops so many plain bytes of the hexadecimal form, and goes on to the next one.
     pub(crate) fn next_hex<S: Source>(&mut self, dropped: u8, below: &mut S) -> Result<u8, Ending>
-        ensures { Reads S.Source.model (behind_of dropped Hex self.old.key) (S.Source.held below.old) (answered Hex self.new.key result) (S.Source.held below.new) }
+        ensures { Reads S.model (behind_of dropped Hex self.old.key) (S.held below.old) (answered Hex self.new.key result) (S.held below.new) }
     {
         let mut left = dropped;
         let mut pending = None;

@@ -20,8 +20,8 @@ pub struct Layer<K, S> {
 impl<K: Kind, S: Source> Layer<K, S> {
     // A filter that has not ended, over what is given; nothing is taken from that.
     pub fn new(kind: K, below: S) -> Layer<K, S>
-        ensures held { layer_held K.Kind.holds S.Source.held result ≡ (own_of (K.Kind.holds kind) None, S.Source.held below) }
-        ensures law { LayerLaw K.Kind.step_of S.Source.model }
+        ensures held { layer_held K.holds S.held result ≡ (own_of (K.holds kind) None, S.held below) }
+        ensures law { LayerLaw K.step_of S.model }
     {
         Layer {
             below,
@@ -32,7 +32,7 @@ impl<K: Kind, S: Source> Layer<K, S> {
 
     // Makes a step if nothing is ready and the filter has not ended.
     fn fill(&mut self)
-        ensures { layer_held K.Kind.holds S.Source.held self.new ≡ layer_looked K.Kind.step_of S.Source.model (layer_held K.Kind.holds S.Source.held self.old) }
+        ensures { layer_held K.holds S.held self.new ≡ layer_looked K.step_of S.model (layer_held K.holds S.held self.old) }
     {
         if self.ended.is_none() && self.kind.first().is_none() {
             self.ended = self.kind.step(&mut self.below);
@@ -41,7 +41,7 @@ impl<K: Kind, S: Source> Layer<K, S> {
 
     // The first ready byte, or the ending.
     fn front(&self) -> Result<u8, Ending>
-        ensures { result ≡ front_of (K.Kind.holds self.now.kind).ready self.now.ended }
+        ensures { result ≡ front_of (K.holds self.now.kind).ready self.now.ended }
     {
         // behind a fill nothing is ready only where it has ended
         self.kind.first().ok_or(self.ended.unwrap_or(Ending::Clean))
@@ -49,13 +49,13 @@ impl<K: Kind, S: Source> Layer<K, S> {
 }
 
 impl<K: Kind, S: Source> Source for Layer<K, S> {
-    ghost Held = { Own K.Kind.State × S.Source.Held };
+    ghost Held = { Own K.State × S.Held };
 
-    ghost held = { layer_held K.Kind.holds S.Source.held };
+    ghost held = { layer_held K.holds S.held };
 
-    ghost model = { layer_model K.Kind.step_of S.Source.model };
+    ghost model = { layer_model K.step_of S.model };
 
-    ghost lawful = { layer_lawful K.Kind.step_of K.Kind.lawful_step S.Source.model S.Source.lawful };
+    ghost lawful = { layer_lawful K.step_of K.lawful_step S.model S.lawful };
 
     fn look(&mut self) -> Result<u8, Ending> {
         self.fill();
@@ -75,17 +75,17 @@ impl<K: Kind + Drop, S: Source> Filter for Layer<K, S> {
 
     const MOST: usize = K::MOST;
 
-    ghost MOST = { K.Kind.MOST };
+    ghost MOST = { K.MOST };
 
     ghost under = { λ l. l.below };
 
-    ghost ready = { λ l. (K.Kind.holds l.kind).ready };
+    ghost ready = { λ l. (K.holds l.kind).ready };
 
-    ghost compared = { λ l. (K.Kind.holds l.kind).compared };
+    ghost compared = { λ l. (K.holds l.kind).compared };
 
     ghost ended = { λ l. l.ended };
 
-    ghost decodes = { λ l. decode K.Kind.step_of (K.Kind.holds l.kind).kind (K.Kind.holds l.kind).compared };
+    ghost decodes = { λ l. decode K.step_of (K.holds l.kind).kind (K.holds l.kind).compared };
 
     fn held_count(&self) -> usize {
         self.kind.count()

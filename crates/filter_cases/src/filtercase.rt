@@ -49,8 +49,6 @@ fn read_subfile(heap: Global, word: &str) -> anyhow::Result<AnyKind> {
     let rest = word.strip_prefix("sub:").context("no kind")?;
     let (count, mark) = rest.split_once(':').context("no mark")?;
     let bytes = read_bytes(heap, mark)?;
-    let mark = Mark::new(bytes.as_slice())
-        .ok()
-        .context("a mark of over 16 bytes")?;
+    let mark = Mark::new(bytes.as_slice())?;
     Ok(AnyKind::subfile(count.parse::<u32>()?, mark))
 }

@@ -48,6 +48,7 @@ fn ask_all<S: Source>(source: &mut S, asks: &str, line: &mut String) -> anyhow::
         match ask {
             b'l' => write!(line, "?{}", Answer(source.look()))?,
             b't' => write!(line, "{}", Answer(source.take()))?,
+            // `*`
             _ => take_all(source, line)?,
         }
     }

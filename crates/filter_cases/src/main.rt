@@ -20,14 +20,15 @@ fn answer_line(heap: Global, line: &str) -> anyhow::Result<String> {
     layers::play_filters(heap, &case)
 }
 
-// The program `cases` has this loop too: one for both would take a closure, and be no shorter.
+// The program `cases` has this loop too: one for both would bring the runtime and `anyhow` into a library.
 fn run(rt: &HostRuntime) -> anyhow::Result<()> {
     let heap = rt.alloc();
     let text = io::read_to_string(heap, rt.stdin())?;
-    for line in text.lines() {
-        if !line.is_empty() && !line.starts_with('#') {
-            rt.println(answer_line(heap, line)?)?;
-        }
+    for line in text
+        .lines()
+        .filter(|line| !line.is_empty() && !line.starts_with('#'))
+    {
+        rt.println(answer_line(heap, line)?)?;
     }
     Ok(())
 }

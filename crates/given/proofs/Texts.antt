@@ -1,5 +1,5 @@
 -- What the library's readers say of a text, in the words of `specs/Texts`.
-use Rattle.std.proofs.Common.{◌≡◌, ℕ, ◌<◌, ◌^◌, Bool, true, false, cond, ◌&&◌, List, [], ◌++◌, length, Option, Some, None, Result, Ok, Err, Bor, lit<, map, drop, get_or, ◌+◌, append_assoc, append-nil, nat_lt, ◌⊎◌, inl, inr, codes, bytes_eq, arith, option_map, option_and_then, nat_eq, sym, ◌∙◌, refl, ap}
+use Rattle.std.proofs.Common.{◌≡◌, ℕ, ◌<◌, ◌^◌, if◌then◌else◌, Bool, true, false, cond, ◌&&◌, List, [], ◌++◌, length, Option, Some, None, Result, Ok, Err, Bor, lit<, map, drop, get_or, ◌+◌, append_assoc, append-nil, nat_lt, ◌⊎◌, inl, inr, codes, bytes_eq, arith, option_map, option_and_then, nat_eq, sym, ◌∙◌, refl, ap}
 use Rattle.std.specs.Bool.{Decides}
 use Rattle.std.specs.Result.{result_ok, OkIff, IsErrAnd, IfErr}
 use Rattle.std.specs.Str.{all_ascii_digits}
@@ -39,16 +39,11 @@ ok_tested false v (Err e) h d = refl
 pub parsed : {E : Type 0} (k : ℕ) (bs : List ℕ) (r : Result ℕ E) → ParsesUnsigned k 10 bs r → result_ok r ≡ number_of (2 ^ k) bs
 parsed k bs r h = ok_tested _ _ r h (numeral_tested (2 ^ k) (without_leading_plus bs))
 
-uncounted_at : (once : Option (List ℕ)) → option_and_then (λ bytes. option_map (λ n. repeat n bytes) None) once ≡ None
-uncounted_at None = refl
-uncounted_at (Some bytes) = refl
-
 -- a part has no bytes where the number behind its x is none
-pub uncounted : (part digits times : List ℕ) → sides 120 part ≡ Some (digits, times) → number_of (2 ^ 64) times ≡ None → part_of part ≡ None
+pub uncounted : (part digits times : List ℕ) → sides 120 part ≡ Some (digits, times) → number_of (2 ^ 32) times ≡ None → part_of part ≡ None
 uncounted part digits times s n =
     ap (λ o. option_map_or repeated_of o (pairs_of part)) s
-    ∙ ap (λ o. option_and_then (λ once. option_map (λ n. repeat n once) o) (pairs_of digits)) n
-    ∙ uncounted_at (pairs_of digits)
+    ∙ ap (λ o. option_and_then (λ n. if nat_eq n 0 then Some [] else option_map (λ once. repeat n once) (pairs_of digits)) o) n
 
 -- where `split_once` cuts
 pub cut : (c : ℕ) (bs : List ℕ) (r : Option (Bor (List ℕ) × Bor (List ℕ))) → IsSplitOnceResult c bs r → c < 128 → sides c bs ≡ option_map (λ x. (x.0.now, x.1.now)) r

@@ -31,9 +31,9 @@ sides c text =
     if position_or_len (λ b. b == c) text == length text then None
     else Some (before_first (λ b. b == c) text, after_first (λ b. b == c) text)
 
--- the damage whose number a text writes
+-- the damage whose number a text writes by two figures
 abbrev pub damage_of : List ℕ → Option Damage
-damage_of text = option_and_then (λ n. result_ok (damage_numbered n)) (number_of 256 text)
+damage_of text = if length text == 2 then option_and_then (λ n. result_ok (damage_numbered n)) (number_of 256 text) else None
 
 -- the ending of a damage's number and a depth, which is below 256
 abbrev pub damaged_of : List ℕ × List ℕ → Option Ending
@@ -47,9 +47,10 @@ ending_of text = if bytes_eq text (codes "clean") then Some Clean else option_an
 abbrev pub pairs_of : List ℕ → Option (List ℕ)
 pairs_of text = result_ok (decode_of text)
 
--- the bytes of pairs of digits, and of a number, which says how often they come
+-- the bytes of a text and of a number, which says how often those of its pairs of digits come; none if never, whatever the text
 abbrev pub repeated_of : List ℕ × List ℕ → Option (List ℕ)
-repeated_of p = option_and_then (λ once. option_map (λ n. repeat n once) (number_of (2 ^ 64) p.1)) (pairs_of p.0)
+repeated_of p =
+    option_and_then (λ n. if n == 0 then Some [] else option_map (λ once. repeat n once) (pairs_of p.0)) (number_of (2 ^ 32) p.1)
 
 -- the bytes of a part: pairs of digits, which come once, or as often as the number behind an `x` says
 abbrev pub part_of : List ℕ → Option (List ℕ)

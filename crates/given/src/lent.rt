@@ -5,7 +5,7 @@ use source::{Ending, Source};
 
 // A source over bytes that are lent, with an ending as given. It remembers whether the byte or the ending that comes
 // next was looked at and not taken, and so is no `Memory` with an ending.
-#[derive(Clone, Copy)]
+#[derive(Drop)]
 pub struct Given<'a> {
     rest: &'a [u8],
     ending: Ending,

@@ -1,5 +1,5 @@
 ghost use Rattle.std.specs.Prelude.{◌≡◌, ◌⊎◌, ok_or, IfOk, IfErr, None, Some};
-ghost use Rattle.given.specs.Texts.{ending_of, part_of, bytes_of, why_no_hex, error_text};
+ghost use Rattle.given.specs.Texts.{damage_of, ending_of, part_of, bytes_of, why_no_hex, error_text};
 ghost use Rattle.given.specs.declared.reading.ReadError.TheVariants.{NoEnding, NoBytes, OutOfMemory};
 
 use hex::FromHexError;
@@ -77,10 +77,20 @@ fn ending(text: &str) -> Option<Ending>
         return Some(Ending::Clean);
     }
     let (number, depth) = text.split_once('/')?;
-    let number = number.parse::<u8>().ok()?;
-    let damage = Damage::try_from(number).ok()?;
+    let damage = damage_of(number)?;
     let depth = depth.parse::<u8>().ok()?;
     Some(Ending::Damaged(damage, depth))
+}
+
+// The damage whose number a text writes, with no sign and no zero before it.
+#[tactic(auto, using(crate::proofs::Texts::parsed))]
+fn damage_of(text: &str) -> Option<Damage>
+    ensures { result ≡ damage_of text.now }
+{
+    if text.len() != 2 {
+        return None;
+    }
+    Damage::try_from(text.parse::<u8>().ok()?).ok()
 }
 
 // Reads parts with points between them, or `-` for no byte.
@@ -107,9 +117,12 @@ fn read_part(alloc: Global, part: &str) -> Result<Vec<u8>, ReadError>
     let Some((digits, times)) = part.split_once('x') else {
         return Ok(hex::decode(alloc, part)?);
     };
+    let times = times.parse::<u32>()?;
+    if times == 0 {
+        return Ok(Vec::new(alloc));
+    }
     let once = hex::decode(alloc, digits)?;
-    let times = times.parse::<usize>()?;
-    Ok(once.repeat(alloc, times)?)
+    Ok(once.repeat(alloc, times as usize)?)
 }
 
 #[cfg(test)]
@@ -129,6 +142,8 @@ mod tests {
             ("22/", Err(ReadError::NoEnding)),
             ("22/256", Err(ReadError::NoEnding)),
             ("22/1/1", Err(ReadError::NoEnding)),
+            ("+22/1", Err(ReadError::NoEnding)),
+            ("022/1", Err(ReadError::NoEnding)),
         ] {
             assert_eq!(rt; read_ending(text), want, "{text}");
         }
@@ -144,6 +159,7 @@ mod tests {
             ("2F.61x3.20", "/aaa "),
             ("6162x2.", "abab"),
             ("61x0.62x+1", "b"),
+            ("6gx0.63", "c"),
         ] {
             assert_eq!(rt;
                 read_bytes(rt.alloc(), text)?.as_slice(),
@@ -165,7 +181,7 @@ mod tests {
             "61x-1",
             "61x1x1",
             "61,62",
-            "61x18446744073709551616",
+            "61x4294967296",
         ] {
             match read_bytes(rt.alloc(), text) {
                 Ok(_) => panic!(rt; "{text} is read"),

@@ -5,7 +5,8 @@ ghost use Rattle.listing.specs.Puts.{Puts};
 use crate::refusal::Refusal;
 use crate::sink::Sink;
 
-// By code of this crate, since `write!` promises nothing where it fails, and a line is refused only where it does not fit.
+// By code of this crate: `write!` promises nothing where it fails, and a line is refused only where it does not fit; and what
+// is printed for the record is to rest on no further crate of the kit.
 
 // Puts a number in decimal: what stands before its last digit, then that digit.
 pub(crate) fn put_number<S: Sink>(out: &mut S, n: u32) -> Result<(), Refusal>

@@ -14,6 +14,7 @@ use source::{Ending, Fault};
 // shown. The end has neither a level nor a content. An area of four bytes for each byte of content, and 32 more, is
 // enough.
 #[tactic(auto, using(crate::proofs::Worked::examples, crate::proofs::Lawful::told_apart))]
+// inlined, so that the level and the kind that a caller knows are not asked again
 #[inline(always)]
 pub fn token_line(
     level: u8,

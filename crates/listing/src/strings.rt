@@ -5,7 +5,7 @@ use crate::refusal::Refusal;
 use crate::shape::Shape;
 use crate::sink::Sink;
 
-// A hexadecimal digit, with a capital letter.
+// A hexadecimal digit, with a capital letter; as the figures of `decimals`, by code of this crate.
 fn hex_digit(d: u8) -> u8
     requires { d < 16 }
     ensures { result ≡ hex_digit d }

@@ -1,5 +1,6 @@
-use Rattle.std.proofs.Common.{◌≡◌, ℕ, ◌+◌, ◌<◌, ◌≤◌, List, ◌++◌, length, take, drop, set, sym, refl, ap, ◌∙◌, arith}
+use Rattle.std.proofs.Common.{◌≡◌, ℕ, ◌+◌, ◌<◌, ◌≤◌, List, ◌++◌, length, take, drop, set, sym, refl, ap, ap₂, ◌∙◌, arith}
 use Rattle.std.proofs.lemmas.List.{length-set, length-take-le, take-append-drop, drop-set-lt, drop-drop}
+use Rattle.std.proofs.Math.Seq.{take-set-lt}
 use Rattle.source.specs.declared.ending.Ending.{Ending}
 use Rattle.source.specs.Model.{Model}
 use Rattle.source.specs.Gone.{gone_to}
@@ -21,6 +22,11 @@ written_more old new n b w k =
       within = le;
       behind = drop-set-lt (n + 1) new n b lt ∙ (sym (drop-drop 1 n new) ∙ (ap (drop 1) w.behind ∙ drop-drop 1 n old));
     }
+
+-- a byte that is set among the first n
+pub set_front : (n : ℕ) (l : List ℕ) (i b : ℕ) → i < n → set (take n l) i b ++ drop n l ≡ set l i b
+set_front n l i b k =
+    ap₂ (λ x y. x ++ y) (sym (take-set-lt n l i b k)) (sym (drop-set-lt n l i b k)) ∙ take-append-drop n (set l i b)
 
 -- how many were written
 pub written_count : (old new : List ℕ) (n : ℕ) → Written old new n → length (take n new) ≡ n

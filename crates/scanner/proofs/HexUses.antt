@@ -1,7 +1,8 @@
-use Rattle.std.proofs.Common.{◌≡◌, ℕ, ◌+◌, ◌<◌, ◌≤◌, false, eqb, List, [], ◌∷◌, length, take, set, None, Ok, Err, Option, Result, sym, refl, ap, ◌∙◌, arith}
+use Rattle.std.proofs.Common.{◌≡◌, ℕ, ◌+◌, ◌<◌, ◌≤◌, false, eqb, List, [], ◌∷◌, length, take, set, None, Ok, Err, Option, Result, true, is_ok, MatchResult, sym, refl, ap, ◌∙◌, arith}
 use Rattle.std.proofs.lemmas.List.{take_more_set}
 use Rattle.std.proofs.lemmas.Bool.{cond-true, cond-false, eq-eqb, ne_eqb}
 use Rattle.source.specs.declared.ending.Ending.{Ending}
+use Rattle.source.specs.declared.fault.Fault.{Fault}
 use Rattle.source.specs.declared.fault.Fault.TheVariants.{Limit, StrayInHex}
 use Rattle.source.specs.Model.{Model}
 use Rattle.source.specs.Laws.{Lawful}
@@ -19,6 +20,7 @@ use Rattle.scanner.specs.Puts.{Puts}
 use Rattle.scanner.specs.Takes.{byte_of}
 use Rattle.scanner.specs.HexStrings.{hex_full, hex_turn, hex_at, hex_of}
 use Rattle.scanner.proofs.Area.{Written, written_more, written_count, scans_at}
+use Rattle.scanner.proofs.Mapped.{reads_passed}
 use Rattle.scanner.proofs.PieceUses.{steady_byte, byte_first}
 
 -- the invariant of the loop
@@ -33,7 +35,11 @@ peek_not (x ∷ rest) e b q = refl
 -- a turn that got a byte
 module _
     {H : Type 0} (m : Model H) (l : Lawful H m) (h x x' : H) (old new : List ℕ) (n : ℕ) (pending : Option ℕ) (b : ℕ)
-    (k : Hexed m h x old new n pending) (y : Reads m byte_of x (Ok b) x') where
+    (k : Hexed m h x old new n pending) (Q : Fault → Type 0) (r : Result ℕ Fault) (z : Reads m byte_of x r x')
+    (c : MatchResult r (λ y. ◌≡◌ {A = Result ℕ Failure} (Ok b) (Ok y)) Q) (v : true ≡ is_ok r) where
+  y : Reads m byte_of x (Ok b) x'
+  y = reads_passed Failure Q m byte_of x x' r b z c v
+
   came : Ok b ≡ (byte_of (m.rest x) (m.ending h)).answer
   came = walk_answer m l byte_of h x (Ok b) x' _ _ steady_byte k.walk y
 

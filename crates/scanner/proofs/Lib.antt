@@ -18,3 +18,4 @@ pub mod StartLawful
 pub mod HexLawful
 pub mod SpaceLawful
 pub mod RealLawful
+pub mod TokenLawful

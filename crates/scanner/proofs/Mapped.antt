@@ -1,4 +1,5 @@
-use Rattle.std.proofs.Common.{◌≡◌, ℕ, true, false, List, Ok, Err, Result, is_ok, MatchResult, sym, refl, ap, ◌∙◌, subst, arith}
+use Rattle.std.proofs.Common.{◌≡◌, ℕ, true, false, List, Ok, Err, Result, is_ok, IsOkAnd, IsErrAnd, MatchResult, sym, refl, ap, ◌∙◌, subst, arith}
+use Rattle.std.proofs.lemmas.Result.{err_from_is_err_and}
 use Rattle.source.specs.declared.ending.Ending.{Ending}
 use Rattle.source.specs.declared.fault.Fault.{Fault as Flaw}
 use Rattle.source.specs.Model.{Model}
@@ -31,9 +32,15 @@ stopped n (Err f) d c v = (f, refl, c)
 
 -- what `map` makes a token of
 pub tokened_map :
-    (k : Kind) (r : Result ℕ Failure) (t : Result Token Failure) → MatchResult r (λ n. t ≡ Ok (token k n)) (λ f. t ≡ Err f) → t ≡ tokened k r
-tokened_map k (Ok n) t c = c
-tokened_map k (Err f) t c = c
+    (k : Kind) (r : Result ℕ Failure) (t : Result Token Failure) (Q : ℕ → Token → Type 0) → ((n : ℕ) (y : Token) → Q n y → y ≡ token k n)
+    → MatchResult r (λ n. IsOkAnd t (Q n)) (λ f. t ≡ Err f) → t ≡ tokened k r
+tokened_map k (Ok n) (Ok y) Q q c = ap Ok (q n y c)
+tokened_map k (Ok n) (Err f) Q q c = absurd c
+tokened_map k (Err f) t Q q c = c
+
+-- what a `?` gives back is the failure that it met
+pub given_back : {A : Type 0} (r : Result A Failure) (f : Failure) → IsErrAnd r (λ y. y ≡ f) → r ≡ Err f
+given_back r f h = let p = err_from_is_err_and r h in p.1 ∙ ap Err p.2
 
 pub scans_token :
     {H : Type 0} (m : Model H) (f : ℕ → List ℕ → Ending → Scan (Result ℕ Failure)) (h h' : H) (old new : List ℕ) (r : Result ℕ Failure) (k : Kind)

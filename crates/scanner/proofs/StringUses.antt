@@ -1,4 +1,4 @@
-use Rattle.std.proofs.Common.{◌≡◌, ℕ, zero, suc, ◌+◌, ◌<◌, ◌≤◌, Bool, eqb, List, [], ◌∷◌, ◌++◌, length, take, set, Ok, Err, Result, sym, refl, ap, ◌∙◌, arith}
+use Rattle.std.proofs.Common.{◌≡◌, ℕ, zero, suc, ◌+◌, ◌<◌, ◌≤◌, Bool, eqb, List, [], ◌∷◌, ◌++◌, length, take, set, Ok, Err, Result, true, is_ok, MatchResult, sym, refl, ap, ◌∙◌, arith}
 use Rattle.std.proofs.lemmas.List.{take_more_set}
 use Rattle.std.proofs.lemmas.Bool.{cond-true, cond-false, eq-eqb, ne_eqb}
 use Rattle.source.specs.declared.ending.Ending.{Ending}
@@ -24,6 +24,7 @@ use Rattle.scanner.specs.Scan.{Scan, Scans}
 use Rattle.scanner.specs.Pieces.{opening_of, piece_by, piece_of}
 use Rattle.scanner.specs.Strings.{turn_of, string_turn, string_piece, string_at, string_of}
 use Rattle.scanner.proofs.Area.{Written, written_more, written_count, scans_at}
+use Rattle.scanner.proofs.Mapped.{reads_passed}
 use Rattle.scanner.proofs.PieceUses.{steady_take_if, steady_escape, steady_piece}
 
 -- the invariant: fuel is left for what is left
@@ -76,7 +77,11 @@ put_more b to room done depth left peeked on e = sym (cond-false (eqb (length do
 -- a turn that got a piece
 module _
     {H : Type 0} (m : Model H) (l : Lawful H m) (h x x' : H) (old new : List ℕ) (n depth : ℕ) (p : Piece)
-    (k : Strung m h x old new n depth) (y : Reads m piece_of x (Ok p) x') where
+    (k : Strung m h x old new n depth) (Q : Fault → Type 0) (r : Result Piece Fault) (z : Reads m piece_of x r x')
+    (c : MatchResult r (λ y. ◌≡◌ {A = Result Piece Failure} (Ok p) (Ok y)) Q) (v : true ≡ is_ok r) where
+  y : Reads m piece_of x (Ok p) x'
+  y = reads_passed Failure Q m piece_of x x' r p z c v
+
   ok :
       (j : ℕ) × (length (m.rest x) ≤ j)
       × (string_turn (turn_of p depth) (length old) (take n new) depth (piece_of (m.rest x) (m.ending h)).left (piece_of (m.rest x) (m.ending h)).peeked (λ done depth. string_at j (length old) done depth (piece_of (m.rest x) (m.ending h)).left (m.ending h))

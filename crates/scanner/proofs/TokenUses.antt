@@ -1,4 +1,4 @@
-use Rattle.std.proofs.Common.{◌≡◌, ℕ, ◌≤◌, Bool, true, false, ltb, List, [], ◌∷◌, length, take, drop, None, Ok, Err, Option, Result, sym, refl, ap, ◌∙◌, ap₂, arith}
+use Rattle.std.proofs.Common.{◌≡◌, ℕ, ◌≤◌, Bool, true, false, ltb, List, [], ◌∷◌, length, take, drop, Some, None, Ok, Err, Option, Result, sym, refl, ap, ◌∙◌, ap₂, arith}
 use Rattle.std.proofs.lemmas.List.{length-append, take_at}
 use Rattle.std.proofs.lemmas.Bool.{cond-false, or_parts, ltb-false}
 use Rattle.source.specs.declared.ending.Ending.{Ending}
@@ -10,7 +10,7 @@ use Rattle.source.proofs.Calls.{steady_here, steady_take, take_of, look_of, take
 use Rattle.scanner.specs.declared.failure.Failure.{Failure}
 use Rattle.scanner.specs.declared.kinds.Token.{Token}
 use Rattle.scanner.specs.declared.tokens.Start.{Start}
-use Rattle.scanner.specs.Scan.{Scan, Scans}
+use Rattle.scanner.specs.Scan.{Scans}
 use Rattle.scanner.specs.Spaces.{skipped}
 use Rattle.scanner.specs.Runs.{run_at, run_of}
 use Rattle.scanner.specs.Takes.{take_if_of}
@@ -89,16 +89,15 @@ module _ {H : Type 0} (m : Model H) (l : Lawful H m) (h h₁ h₂ : H) (old new 
 
     -- a start whose byte is taken, and then a call
     pub next_behind :
-        (h₃ : H) → h₂ ≡ m.taken h₁ → (k : Option Start) → k ≡ start_of b → (g : ℕ → List ℕ → Ending → Scan (Result Token Failure))
-        → ((room : ℕ) (rest : List ℕ) (e : Ending) → SteadyScan rest (g room rest e))
-        → ((room : ℕ) (rest : List ℕ) (e : Ending) → g room rest e ≡ next_by k room b rest e)
-        → (r : Result Token Failure) → Scans m g h₂ old r h₃ new → Scans m next_of h old r h₃ new
-    next_behind h₃ u k q g steady same r y =
+        (h₃ : H) → h₂ ≡ m.taken h₁ → (s k : Start) → Some s ≡ start_of b → s ≡ k
+        → ((room : ℕ) (rest : List ℕ) (e : Ending) → SteadyScan rest (next_by (Some k) room b rest e))
+        → (r : Result Token Failure) → Scans m (λ room rest e. next_by (Some k) room b rest e) h₂ old r h₃ new → Scans m next_of h old r h₃ new
+    next_behind h₃ u s k q is steady r y =
         let two = reads_take m l h (Ok b) h₂ p (u ∙ (ap m.taken t ∙ l.looked_taken h)) in
-        let z = scans_then m l take_of h (Ok b) h₂ g old r h₃ new (steady_take _ _) steady two y in
-        scans_as m l (λ room rest e. g room (take_of rest e).left e) h old r h₃ new next_of r
-        (g (length old) (take_of (m.rest h) (m.ending h)).left (m.ending h)) z
-        (same (length old) (take_of (m.rest h) (m.ending h)).left (m.ending h) ∙ next_at (length old) (m.rest h) (m.ending h) b k p q)
+        let z = scans_then m l take_of h (Ok b) h₂ (λ room rest e. next_by (Some k) room b rest e) old r h₃ new (steady_take _ _) steady two y in
+        scans_as m l (λ room rest e. next_by (Some k) room b (take_of rest e).left e) h old r h₃ new next_of r
+        (next_by (Some k) (length old) b (take_of (m.rest h) (m.ending h)).left (m.ending h)) z
+        (next_at (length old) (m.rest h) (m.ending h) b (Some k) p (ap Some (sym is) ∙ q))
         z.answer refl refl refl
 
 -- a run that is read says how long it is

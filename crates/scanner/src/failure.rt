@@ -1,7 +1,8 @@
 ghost use Rattle.std.specs.Prelude.{◌≡◌};
 ghost use Rattle.scanner.specs.Failures.{failure_number};
+ghost use Rattle.scanner.specs.Tokens.{bare_fault};
 
-use source::Fault;
+use source::{Ending, Fault};
 
 // Why a token call gave no token.
 #[derive(Clone, Copy, Debug, PartialEq, Eq)]
@@ -21,5 +22,14 @@ impl Failure {
             Failure::Area => 6,
             Failure::Fault(fault, _) => fault.number(),
         }
+    }
+}
+
+// An ending where more bytes are needed, and no content stands in the area.
+impl From<Ending> for Failure {
+    ghost from_gives = { λ ending failure. failure ≡ bare_fault ending };
+
+    fn from(ending: Ending) -> Failure {
+        Failure::Fault(Fault::from(ending), 0)
     }
 }

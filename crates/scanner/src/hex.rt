@@ -8,7 +8,7 @@ use source::{Fault, HexTurn, Source, hex_turn};
 
 // Reads a hex string, behind its `<`, up to `>`.
 pub(crate) fn hex_string<S: Source>(source: &mut S, area: &mut [u8]) -> Result<usize, Failure>
-    ensures { Scans S.Source.model hex_of (S.Source.held source.old) area.old result (S.Source.held source.new) area.new }
+    ensures { Scans S.model hex_of (S.held source.old) area.old result (S.held source.new) area.new }
 {
     let mut n = 0;
     let mut pending = None;

@@ -70,9 +70,10 @@ fn opening_of(b: u8) -> Opening
     }
 }
 
-// Takes the next byte if it is an octal digit.
+// Takes the next byte if it is an octal digit. Not one function with `take_if`: that would take a closure from a byte to its
+// value, and a model of it in each of the two contracts, for two lines of code.
 fn octal<S: Source>(source: &mut S) -> Option<u8>
-    ensures reads { Reads S.Source.model octal_of (S.Source.held source.old) result (S.Source.held source.new) }
+    ensures reads { Reads S.model octal_of (S.held source.old) result (S.held source.new) }
     ensures small { IfSome result (λ d. d < 8) }
 {
     let d = digit(source.look().ok()?, 8)?;
@@ -83,7 +84,7 @@ fn octal<S: Source>(source: &mut S) -> Option<u8>
 // The byte of an octal number of one to three digits, whose first is d; of the value the last eight bits.
 fn octal_number<S: Source>(source: &mut S, d: u8) -> u8
     requires { d < 8 }
-    ensures { Reads S.Source.model (number_of d) (S.Source.held source.old) result (S.Source.held source.new) }
+    ensures { Reads S.model (number_of d) (S.held source.old) result (S.held source.new) }
 {
     let Some(second) = octal(source) else {
         return d
@@ -96,7 +97,7 @@ fn octal_number<S: Source>(source: &mut S, d: u8) -> u8
 
 // What stands behind a backslash.
 fn escaped<S: Source>(source: &mut S) -> Result<Piece, Fault>
-    ensures { Reads S.Source.model escape_of (S.Source.held source.old) result (S.Source.held source.new) }
+    ensures { Reads S.model escape_of (S.held source.old) result (S.held source.new) }
 {
     let b = next_byte(source)?;
     match meaning_of(b) {
@@ -112,7 +113,7 @@ fn escaped<S: Source>(source: &mut S) -> Result<Piece, Fault>
 
 // The next piece of a string; a line end of 13, or of 13 and 10, is the byte 10.
 pub(crate) fn next_piece<S: Source>(source: &mut S) -> Result<Piece, Fault>
-    ensures { Reads S.Source.model piece_of (S.Source.held source.old) result (S.Source.held source.new) }
+    ensures { Reads S.model piece_of (S.held source.old) result (S.held source.new) }
 {
     let b = next_byte(source)?;
     match opening_of(b) {

@@ -14,14 +14,11 @@ fn behind_digits(s: &[u8]) -> &[u8]
     rest
 }
 
-// What stands behind an optional point. As `behind_sign`, but by another pattern, which no parameter can be.
+// What stands behind an optional point.
 fn behind_point(s: &[u8]) -> &[u8]
     ensures { result.now ≡ behind_point s.now }
 {
-    match s {
-        [b'.', rest @ ..] => rest,
-        _ => s,
-    }
+    s.strip_prefix(b".").unwrap_or(s)
 }
 
 // Some digits, and nothing else.

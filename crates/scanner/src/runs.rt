@@ -3,8 +3,9 @@ ghost use Rattle.scanner.specs.Scan.{Scans};
 ghost use Rattle.scanner.specs.Runs.{run_of};
 
 use crate::class::{Class, class_of};
+use crate::content::put;
 use crate::failure::Failure;
-use source::{Fault, Source};
+use source::Source;
 
 // The most bytes of a run.
 const MOST: usize = 127;
@@ -12,7 +13,7 @@ const MOST: usize = 127;
 // Reads a run of regular bytes into the area, and takes the one white byte behind it.
 pub(crate) fn run<S: Source>(source: &mut S, area: &mut [u8]) -> Result<usize, Failure>
     requires { 128 ≤ length area.old }
-    ensures { Scans S.Source.model run_of (S.Source.held source.old) area.old result (S.Source.held source.new) area.new }
+    ensures { Scans S.model run_of (S.held source.old) area.old result (S.held source.new) area.new }
 {
     let mut n = 0;
     while let Ok(b) = source.look() {
@@ -24,12 +25,8 @@ pub(crate) fn run<S: Source>(source: &mut S, area: &mut [u8]) -> Result<usize, F
             }
             Class::Regular => {
                 let _ = source.take();
-                if n == MOST {
-                    return Err(Failure::Fault(Fault::Limit, n));
-                }
-                // not by `put`: an area has room for every run, and no other limit counts here
-                area[n] = b;
-                n += 1;
+                // no run is longer than these places, and every area is
+                n = put(&mut area[..MOST], n, b)?;
             }
         }
     }

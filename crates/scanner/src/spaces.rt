@@ -21,7 +21,7 @@ fn passing(comment: bool, b: u8) -> Option<bool>
 
 // Passes over white bytes and comments, and looks at what stands behind them.
 pub(crate) fn skip<S: Source>(source: &mut S)
-    ensures { S.Source.held source.new ≡ gone_to S.Source.model (S.Source.held source.old) (skipped false (S.Source.model.rest (S.Source.held source.old))) true }
+    ensures { S.held source.new ≡ gone_to S.model (S.held source.old) (skipped false (S.model.rest (S.held source.old))) true }
 {
     let mut comment = false;
     while let Ok(b) = source.look() {

@@ -35,7 +35,7 @@ fn turn_of(piece: Piece, depth: usize) -> Turn
 
 // Reads a string, behind its `(`, up to the `)` that balances it.
 pub(crate) fn string<S: Source>(source: &mut S, area: &mut [u8]) -> Result<usize, Failure>
-    ensures { Scans S.Source.model string_of (S.Source.held source.old) area.old result (S.Source.held source.new) area.new }
+    ensures { Scans S.model string_of (S.held source.old) area.old result (S.held source.new) area.new }
 {
     let mut n = 0;
     let mut depth = 0;

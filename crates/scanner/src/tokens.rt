@@ -54,7 +54,7 @@ fn ended(ending: Ending) -> Result<Token, Failure>
             kind: Kind::End,
             n: 0,
         }),
-        Ending::Damaged(damage, depth) => Err(Failure::Fault(Fault::Damage(damage, depth), 0)),
+        damaged => Err(Failure::from(damaged)),
     }
 }
 
@@ -84,39 +84,37 @@ fn slashed(twice: Result<bool, Ending>) -> Kind
 
 // What stands behind a `<`: another one, or a hex string.
 fn less<S: Source>(source: &mut S, area: &mut [u8]) -> Result<Token, Failure>
-    ensures { Scans S.Source.model less_of (S.Source.held source.old) area.old result (S.Source.held source.new) area.new }
+    ensures { Scans S.model less_of (S.held source.old) area.old result (S.held source.new) area.new }
 {
-    match take_if(source, b'<') {
-        Ok(true) => Ok(Token {
+    if take_if(source, b'<')? {
+        return Ok(Token {
             kind: Kind::OpenDictionary,
             n: 0,
-        }),
-        Ok(false) => hex_string(source, area).map(|n| Token {
-            kind: Kind::HexString,
-            n,
-        }),
-        Err(ending) => Err(Failure::Fault(Fault::from(ending), 0)),
+        });
     }
+    hex_string(source, area).map(|n| Token {
+        kind: Kind::HexString,
+        n,
+    })
 }
 
 // What stands behind a `>`: another one, or the `>` is stray.
 fn greater<S: Source>(source: &mut S) -> Result<Token, Failure>
-    ensures { Reads S.Source.model greater_of (S.Source.held source.old) result (S.Source.held source.new) }
+    ensures { Reads S.model greater_of (S.held source.old) result (S.held source.new) }
 {
-    match take_if(source, b'>') {
-        Ok(true) => Ok(Token {
+    if take_if(source, b'>')? {
+        return Ok(Token {
             kind: Kind::CloseDictionary,
             n: 0,
-        }),
-        Ok(false) => Err(Failure::Fault(Fault::StrayDelimiter, 0)),
-        Err(ending) => Err(Failure::Fault(Fault::from(ending), 0)),
+        });
     }
+    Err(Failure::Fault(Fault::StrayDelimiter, 0))
 }
 
 // The token that stands next.
 fn next_token<S: Source>(source: &mut S, area: &mut [u8]) -> Result<Token, Failure>
     requires { 128 ≤ length area.old }
-    ensures { Scans S.Source.model next_of (S.Source.held source.old) area.old result (S.Source.held source.new) area.new }
+    ensures { Scans S.model next_of (S.held source.old) area.old result (S.held source.new) area.new }
 {
     let b = match source.look() {
         Ok(b) => b,
@@ -153,8 +151,9 @@ fn is_unfit(room: usize) -> bool
 
 // The next token, behind white bytes and comments, with its content at the start of the area. Refused where the area is
 // under 128 or over 65,535 bytes.
+#[tactic(auto, using(crate::proofs::TokenLawful::token_laws))]
 pub fn read_token<S: Source>(source: &mut S, area: &mut [u8]) -> Result<Token, Failure>
-    ensures scans { Scans S.Source.model token_of (S.Source.held source.old) area.old result (S.Source.held source.new) area.new }
+    ensures scans { Scans S.model token_of (S.held source.old) area.old result (S.held source.new) area.new }
     ensures laws { TokenLaws }
     ensures examples { Examples }
 {

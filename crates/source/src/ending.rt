@@ -25,6 +25,7 @@ pub struct NoDamage;
 #[derive(Clone, Copy, Debug, PartialEq, Eq)]
 pub enum Ending {
     Clean,
+    // the damage and the depth, in the order in which they are printed
     Damaged(Damage, u8),
 }
 
@@ -54,7 +55,7 @@ impl TryFrom<u8> for Damage {
 }
 
 impl Ending {
-    // 0 for a clean end, else the damage's number.
+    // The number as it is printed: 0 for a clean end, else the damage's.
     pub fn cause(self) -> u8
         ensures { result ≡ cause_of self }
     {
@@ -64,7 +65,7 @@ impl Ending {
         }
     }
 
-    // 0 for a clean end.
+    // The depth as it is printed: 0 for a clean end.
     pub fn depth(self) -> u8
         ensures { result ≡ depth_of self }
     {

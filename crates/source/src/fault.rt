@@ -36,7 +36,7 @@ impl Fault {
         }
     }
 
-    // How many filters a damage has passed; 0 for every other fault.
+    // The depth as it is printed: how many filters a damage has passed, and 0 for every other fault.
     pub fn depth(self) -> u8
         ensures { result ≡ fault_depth self }
     {
@@ -59,7 +59,7 @@ impl From<Ending> for Fault {
     }
 }
 
-// Its two numbers.
+// Its two numbers. As that of an `Ending`, a line with two methods.
 impl fmt::Display for Fault {
     ghost output = { λ fault. Some (two_numbers (fault_number fault) (fault_depth fault)) };
 

@@ -6,7 +6,7 @@ use crate::ending::Ending;
 use crate::interface::Source;
 
 // A source over bytes that are lent, with a clean end.
-#[derive(Clone, Copy)]
+#[derive(Drop)]
 pub struct Memory<'a> {
     rest: &'a [u8],
 }

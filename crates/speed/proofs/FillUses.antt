@@ -1,15 +1,11 @@
-use Rattle.std.proofs.Common.{Ok, Err, ◌≡◌, ℕ, ◌+◌, ◌<◌, ◌≤◌, min, true, false, List, [], ◌∷◌, ◌++◌, length, get_or, take, drop, set, sym, refl, ap, ◌∙◌, subst, arith}
-use Rattle.std.proofs.lemmas.List.{length-drop, take_all, drop_all, drop_more, take_more, take_more_set}
-use Rattle.std.proofs.lemmas.Bool.{lt-ltb, le-ltb}
-use Rattle.source.specs.declared.ending.Ending.{Ending}
+use Rattle.std.proofs.Common.{Ok, ◌≡◌, ℕ, ◌+◌, ◌<◌, ◌≤◌, false, List, [], ◌∷◌, ◌++◌, length, get_or, take, drop, set, sym, ap, ◌∙◌, subst, arith}
+use Rattle.std.proofs.lemmas.List.{length-drop, drop_more, take_more, take_more_set}
 use Rattle.source.specs.Model.{Model, first, tail}
 use Rattle.source.specs.Laws.{Lawful}
 use Rattle.source.specs.Gone.{gone_to}
-use Rattle.source.proofs.Going.{byte_first, end_first}
-use Rattle.source.proofs.Walk.{Reach, gone_here, took, ended}
-use Rattle.scanner.specs.Scan.{Scans}
-use Rattle.scanner.proofs.Area.{Written, written_none, written_more, scans_at}
-use Rattle.speed.specs.Fill.{fill_of}
+use Rattle.source.proofs.Going.{byte_first}
+use Rattle.source.proofs.Walk.{Reach, took}
+use Rattle.scanner.proofs.Area.{Written, written_more}
 
 -- n bytes were taken and stand in the area
 pub record Filling {H : Type 0} (m : Model H) (h x : H) (old new : List ℕ) (n : ℕ) : Type 0 where
@@ -20,16 +16,6 @@ pub record Filling {H : Type 0} (m : Model H) (h x : H) (old new : List ℕ) (n 
   pub so_far : take n new ≡ take n (m.rest h)
   pub written : Written old new n
 
-pub filling_start : {H : Type 0} (m : Model H) (l : Lawful H m) (h : H) (old : List ℕ) → Filling m h h old old 0
-filling_start m l h old = record {
-  there = gone_here m l h;
-  same = refl;
-  at = refl;
-  enough = omega arith;
-  so_far = refl;
-  written = written_none old;
-}
-
 module _ {H : Type 0} (m : Model H) (l : Lawful H m) (h x : H) (old new : List ℕ) (n : ℕ) (k : Filling m h x old new n) where
   reach : Reach m h x
   reach = record {
@@ -38,28 +24,6 @@ module _ {H : Type 0} (m : Model H) (l : Lawful H m) (h x : H) (old new : List �
     there = k.there;
     same = k.same;
   }
-
-  -- there is no room left
-  pub filled_full : length old ≡ n → Scans m fill_of h old n x new
-  filled_full e =
-      let r = m.rest h in
-      let le : n ≤ length r = k.enough in
-      let a : n ≡ min (length old) (length r) = omega arith in
-      scans_at m fill_of h old n x new n (fill_of (length old) r (m.ending h)) refl k.written
-      (ap (λ j. take j r) e ∙ sym k.so_far) a
-      (k.there ∙ (ap (λ s. gone_to m h s false) (k.at ∙ ap (λ j. drop j r) (sym e)) ∙ ap (gone_to m h (drop (length old) r)) (sym (le-ltb (length r) (length old) (omega arith)))))
-
-  -- there is nothing left
-  pub filled_end : (x' : H) (z : Ending) → n < length old → Err z ≡ first (m.rest x) (m.ending x) → x' ≡ m.taken x → Scans m fill_of h old n x' new
-  filled_end x' z lt p t =
-      let r = m.rest h in
-      let none : m.rest x ≡ [] = (end_first (m.rest x) (m.ending x) z p).0 in
-      let len : length r ≡ n = omega (arith, length-drop n r, ap length (sym k.at ∙ none), k.enough) in
-      let a : n ≡ min (length old) (length r) = omega arith in
-      let all : take (length old) r ≡ take n new = take_all (length old) r (omega arith) ∙ (sym (take_all n r (omega arith)) ∙ sym k.so_far) in
-      scans_at m fill_of h old n x' new n (fill_of (length old) r (m.ending h)) refl k.written all a
-      (t ∙ (ended m l h x reach none
-      ∙ (ap (λ s. gone_to m h s true) (sym (drop_all (length old) r (omega arith))) ∙ ap (gone_to m h (drop (length old) r)) (sym (lt-ltb (length r) (length old) (omega arith))))))
 
   -- a byte more
   pub filling_more : (x' : H) (b : ℕ) → n < length new → Ok b ≡ first (m.rest x) (m.ending x) → x' ≡ m.taken x → Filling m h x' old (set new n b) (n + 1)

@@ -1,2 +1,1 @@
 pub mod FillUses
-pub mod PouredUses

@@ -13,7 +13,7 @@ use source::Memory;
 
 // Decodes memory by a filter of a kind.
 fn decode_by<K: Kind + Drop>(kind: K, input: &[u8], output: &mut [u8]) -> usize
-    ensures { Poured ((K.Kind.holds kind).ready ++ (decode K.Kind.step_of (K.Kind.holds kind).kind (K.Kind.holds kind).compared input.now Clean).bytes) output.old result output.new }
+    ensures { Poured ((K.holds kind).ready ++ (decode K.step_of (K.holds kind).kind (K.holds kind).compared input.now Clean).bytes) output.old result output.new }
 {
     let mut layer = Layer::new(kind, Memory::new(input));
     fill(&mut layer, output)

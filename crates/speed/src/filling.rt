@@ -5,7 +5,7 @@ use source::Source;
 
 // Fills an area from the front with what a source gives, up to its end: how many bytes that were.
 pub fn fill<S: Source>(source: &mut S, area: &mut [u8]) -> usize
-    ensures { Scans S.Source.model fill_of (S.Source.held source.old) area.old result (S.Source.held source.new) area.new }
+    ensures { Scans S.model fill_of (S.held source.old) area.old result (S.held source.new) area.new }
 {
     for (n, place) in area.iter_mut().enumerate() {
         match source.take() {

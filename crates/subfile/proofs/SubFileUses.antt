@@ -60,23 +60,37 @@ pub record Comparing {H : Type 0} (m : Model H) (h x : H) (f₀ f : Holds SubSta
   pub there : x ≡ gone_to m h (m.rest x) false
   pub places : n ≡ length f.compared
 
-module _ {H : Type 0} (m : Model H) (l : Lawful H m) where
-  module _ (h x : H) (f₀ f : Holds SubState) (n : ℕ) (k : Comparing m h x f₀ f n) where
+-- a proper start of a mark leaves room for one more byte
+pub hold_fits :
+    {H : Type 0} {m : Model H} {h x : H} {f₀ f : Holds SubState} {n : ℕ} {mark held : List ℕ} → Comparing m h x f₀ f n
+    → mark ≡ f.kind.mark → held ≡ f.compared → Starts ≡ judged mark held → length f.kind.mark ≤ 16 → n < 16
+hold_fits {f = f} k is holds q short =
+    let z : length f.compared < length f.kind.mark = starts_shorter f.kind.mark f.compared (q ∙ ap₂ judged is holds) in
+    omega (arith, k.places, short)
+
+module _ {H : Type 0} {m : Model H} (l : Lawful H m) where
+  -- the bytes held were compared with the mark
+  module _
+      {h x : H} {f₀ f : Holds SubState} {n : ℕ} (k : Comparing m h x f₀ f n)
+      {mark held : List ℕ} (is : mark ≡ f.kind.mark) (holds : held ≡ f.compared) where
+    told : {t : Match} → t ≡ judged mark held → t ≡ judged f.kind.mark f.compared
+    told q = q ∙ ap₂ judged is holds
+
     -- a byte was taken and is held
     pub compare_on :
-        (x' : H) (b : ℕ) (ready c : List ℕ) (n' : ℕ) → Starts ≡ judged f.kind.mark f.compared → Ok b ≡ first (m.rest x) (m.ending x) → x' ≡ m.taken x
+        {x' : H} {b : ℕ} {ready c : List ℕ} {n' : ℕ} → Starts ≡ judged mark held → Ok b ≡ first (m.rest x) (m.ending x) → x' ≡ m.taken x
         → c ≡ f.compared ++ b ∷ [] → n' ≡ n + 1 → Comparing m h x' f₀ (record { ready = ready; compared = c; kind = f.kind }) n'
-    compare_on x' b ready c n' q p t e i = record {
+    compare_on {x'} {b} {ready} {c} {n'} q p t e i = record {
       walk =
           walk_took m l h x _ _ x' b (λ r. mark_at f.kind c r (m.ending h)) k.walk p t
-          (sym (ap (λ t. mark_turn t f.kind f.compared (b ∷ m.rest x') (mark_at f.kind (f.compared ++ b ∷ []) (m.rest x') (m.ending h))) q)
+          (sym (ap (λ t. mark_turn t f.kind f.compared (b ∷ m.rest x') (mark_at f.kind (f.compared ++ b ∷ []) (m.rest x') (m.ending h))) (told q))
           ∙ ap (λ c. mark_at f.kind c (m.rest x') (m.ending h)) (sym e));
       there = (walk_stop_took m l h x _ _ x' b k.walk p t).1;
       places = i ∙ (ap (λ j. j + 1) k.places ∙ (let z : length f.compared + 1 ≡ length (f.compared ++ b ∷ []) = sym (length-append f.compared (b ∷ [])) in z ∙ sym (ap length e)));
     }
 
     -- the contract speaks of the bytes compared before they were moved
-    module _ (c₀ : List ℕ) (same : f₀.compared ≡ c₀) where
+    module _ {c₀ : List ℕ} (same : f₀.compared ≡ c₀) where
       -- the step stops without taking one more
       stop_here :
           (s : Read (Own SubState)) (r : Own SubState) → s ≡ mark_at f.kind f.compared (m.rest x) (m.ending h)
@@ -88,14 +102,15 @@ module _ {H : Type 0} (m : Model H) (l : Lawful H m) where
             after = k.there ∙ (sym (ap₂ (gone_to m h) i p) ∙ ap (λ (s : Read (Own SubState)). gone_to m h s.left s.peeked) e);
           }
 
-      pub compare_equals : (r : Own SubState) → Equals ≡ judged f.kind.mark f.compared → r ≡ instance_own f → Reads m (mark_at f₀.kind c₀) h r x
-      compare_equals r q a =
+      pub compare_equals : {r : Own SubState} → Equals ≡ judged mark held → r ≡ instance_own f → Reads m (mark_at f₀.kind c₀) h r x
+      compare_equals {r} q a =
           let z = instance_parts (eqb f.kind.count 0) f.kind f.compared (m.rest x) in
           stop_here (instance_at f.kind f.compared (m.rest x)) r
-          (at_judged f.kind f.compared (m.rest x) (m.ending h) Equals q (λ on. refl)) (a ∙ z.0) z.1 z.2
+          (at_judged f.kind f.compared (m.rest x) (m.ending h) Equals (told q) (λ on. refl)) (a ∙ z.0) z.1 z.2
 
       pub compare_fails :
-          (r : Own SubState) → Fails ≡ judged f.kind.mark f.compared → r ≡ (first_at f.kind f.compared []).answer → Reads m (mark_at f₀.kind c₀) h r x
-      compare_fails r q a =
-          stop_here (first_at f.kind f.compared (m.rest x)) r
-          (at_judged f.kind f.compared (m.rest x) (m.ending h) Fails q (λ on. refl)) a refl refl
+          {ready c : List ℕ} → Fails ≡ judged mark held → ready ≡ take 1 f.compared → c ≡ drop 1 f.compared
+          → Reads m (mark_at f₀.kind c₀) h (record { ready = ready; compared = c; kind = f.kind; ended = None }) x
+      compare_fails {ready} {c} q r d =
+          stop_here (first_at f.kind f.compared (m.rest x)) _
+          (at_judged f.kind f.compared (m.rest x) (m.ending h) Fails (told q) (λ on. refl)) (released f ready c r d) refl refl

@@ -1,6 +1,6 @@
 use Rattle.std.specs.Prelude.{ℕ, cond, List, length, take, Ok, Err, Result, nat_le}
 use Rattle.subfile.specs.declared.mark.Mark.{Mark}
-use Rattle.subfile.specs.declared.marking.MarkTooLong.{MarkTooLong}
+use Rattle.subfile.specs.declared.mark.MarkTooLong.{MarkTooLong}
 
 -- the bytes of a mark
 unfoldable pub mark_of : Mark → List ℕ

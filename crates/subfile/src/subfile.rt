@@ -12,7 +12,8 @@ use crate::window::Window;
 use decoding::{Kind, ending_above, ending_passed};
 use source::{Ending, Source};
 
-// How the bytes held stand to the mark.
+// How the bytes held stand to the mark. It is named, and not told from the answer of `strip_prefix` where it is needed, since
+// it is what the definition `judged` says.
 #[derive(Clone, Copy, Debug, PartialEq, Eq)]
 enum Match {
     // a proper start of it, or none
@@ -41,6 +42,7 @@ fn judge(mark: &[u8], held: &[u8]) -> Match
 }
 
 impl SubFile {
+    #[tactic(auto, using(crate::proofs::SubFileLawful::sub_laws, crate::proofs::SubFileExampled::sub_examples))]
     pub fn new(count: u32, mark: Mark) -> SubFile
         ensures holds { sub_holds result ≡ record { ready = []; compared = []; kind = record { count = count; mark = mark_of mark } } }
         ensures laws { SubFileLaw }
@@ -75,7 +77,7 @@ impl SubFile {
 
     // Without a mark: takes one byte.
     fn next_byte<S: Source>(&mut self, below: &mut S) -> Option<Ending>
-        ensures { Reads S.Source.model (byte_at (sub_holds self.old).kind) (S.Source.held below.old) (own_of (sub_holds self.new) result) (S.Source.held below.new) }
+        ensures { Reads S.model (byte_at (sub_holds self.old).kind) (S.held below.old) (own_of (sub_holds self.new) result) (S.held below.new) }
     {
         match below.take() {
             Ok(b) => {
@@ -84,17 +86,18 @@ impl SubFile {
             }
             Err(ending) => {
                 self.held = Window::empty();
-                match self.count {
-                    0 => Some(ending_passed(ending)),
-                    _ => Some(ending_above(ending)),
-                }
+                Some(if self.count == 0 {
+                    ending_passed(ending)
+                } else {
+                    ending_above(ending)
+                })
             }
         }
     }
 
     // With a mark: takes bytes while those held are a proper start of it.
     fn compare<S: Source>(&mut self, below: &mut S) -> Option<Ending>
-        ensures { Reads S.Source.model (mark_from (sub_holds self.old)) (S.Source.held below.old) (own_of (sub_holds self.new) result) (S.Source.held below.new) }
+        ensures { Reads S.model (mark_from (sub_holds self.old)) (S.held below.old) (own_of (sub_holds self.new) result) (S.held below.new) }
     {
         self.held.settle();
         loop {

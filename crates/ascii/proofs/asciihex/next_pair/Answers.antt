@@ -1,8 +1,7 @@
 use Rattle.std.proofs.Common.{refl, ap}
 use Rattle.std.specs.Option.{option_to_list}
 use Rattle.ascii.specs.Made.{own_made}
-use Rattle.ascii.proofs.MadeUses.{own_end}
-use Rattle.ascii.proofs.AsciiHexUses.{pair_wait, pair_stop}
+use Rattle.ascii.proofs.AsciiHexUses.{pair_wait, pair_stop, pair_end}
 use Rattle.ascii.proofs.asciihex.next_pair.Goals as goal
 
 pub loop-b-preserved : goal.loop-b-preserved
@@ -21,10 +20,10 @@ returns-in-Last g c =
 
 pub returns-in-Done : goal.returns-in-Done
 returns-in-Done g c =
-    pair_stop g.met.S.Source.lawful c.loop-b.invariant c.take.ensures.after c.in-Ok.ensures.answer c.in-Done.ensures
-    (own_end option_to_list c.end-in-Done.result (ap option_to_list c.end-in-Done.ensures.ready) c.end-in-Done.ensures.ended) refl
+    pair_end g.met.S.Source.lawful c.loop-b.invariant c.take.ensures.after c.in-Ok.ensures.answer c.in-Done.ensures
+    c.end-in-Done.ensures.ready c.end-in-Done.ensures.ended refl
 
 pub returns-in-Stray : goal.returns-in-Stray
 returns-in-Stray g c =
-    pair_stop g.met.S.Source.lawful c.loop-b.invariant c.take.ensures.after c.in-Ok.ensures.answer c.in-Stray.ensures
-    (own_end option_to_list c.end-in-Stray.result (ap option_to_list c.end-in-Stray.ensures.ready) c.end-in-Stray.ensures.ended) refl
+    pair_end g.met.S.Source.lawful c.loop-b.invariant c.take.ensures.after c.in-Ok.ensures.answer c.in-Stray.ensures
+    c.end-in-Stray.ensures.ready c.end-in-Stray.ensures.ended refl

@@ -5,6 +5,5 @@ use Rattle.given.proofs.reading.ending.Goals as goal
 
 pub returns : goal.returns
 returns c =
-    let damage = parsed 8 c.in_ok-number.number.now c.parse.result c.parse.ensures.value.0 in
-    let depth = parsed 8 c.in_ok-number.depth.now c.parse-2.result c.parse-2.ensures.value.0 in
+    let depth = parsed 8 c.in_ok-number.depth.now c.parse.result c.parse.ensures.value.0 in
     grind (arith, common_steps)

@@ -5,7 +5,7 @@ use Rattle.std.proofs.lemmas.Iterator.{YieldsList}
 use Rattle.std.proofs.lemmas.Iterator.Consumers.{YieldsList-turn, YieldsList-end}
 use Rattle.std.proofs.lemmas.List.{length_push}
 use Rattle.given.specs.Texts.{parts_of}
-use Rattle.given.proofs.Texts.{parts_in_order, read-none, read-more, read-bad, read-all, no_dash, passed_on}
+use Rattle.given.proofs.Texts.{parts_in_order, read-more, read-bad, read-all, no_dash, passed_on}
 use Rattle.given.proofs.reading.read_bytes.Goals as goal
 use Rattle.given.proofs.reading.read_bytes.Goals.{After-into_iter-part-iterator}
 
@@ -14,9 +14,6 @@ over_parts : (c : After-into_iter-part-iterator) → YieldsList (split_steps Fin
 over_parts c =
     let split = c.split-part-items.ensures in
     parts_in_order c.args.text.now _ c.split-part-items.result c.into_iter-part-iterator.ensures.into_iter_gives split.text split.has_more split.pattern
-
-pub loop-part-init : goal.loop-part-init
-loop-part-init c = read-none (parts_of c.args.text.now) _ c.new-bytes.ensures.items
 
 pub returns-in_err-more-clause-err : goal.returns-in_err-more-clause-err
 returns-in_err-more-clause-err c =

@@ -1,5 +1,6 @@
 ghost use Rattle.std.specs.Prelude.{◌≡◌, ◌⊎◌, ok_or, IfOk, IfErr, None, Some};
 ghost use Rattle.given.specs.Texts.{damage_of, ending_of, part_of, bytes_of, why_no_hex, error_text};
+ghost use Rattle.given.specs.Examples.{Examples};
 ghost use Rattle.given.specs.declared.reading.ReadError.TheVariants.{NoEnding, NoBytes, OutOfMemory};
 
 use hex::FromHexError;
@@ -63,8 +64,10 @@ impl From<ParseIntError> for ReadError {
 }
 
 // Reads `clean`, or a damage's number, a slash and its depth.
+#[tactic(auto, using(crate::proofs::Worked::worked))]
 pub fn read_ending(text: &str) -> Result<Ending, ReadError>
-    ensures { result ≡ ok_or (ending_of text.now) NoEnding }
+    ensures is { result ≡ ok_or (ending_of text.now) NoEnding }
+    ensures examples { Examples }
 {
     ending(text).ok_or(ReadError::NoEnding)
 }

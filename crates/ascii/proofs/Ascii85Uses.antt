@@ -51,7 +51,7 @@ below_push [] d q h = (h, tt)
 below_push (x ∷ ds) d q h = (q.0, below_push ds d q.1 h)
 
 -- a digit is below 85
-digit_below : (b d : ℕ) → Digit d ≡ byte_85_of b → d < 85
+pub digit_below : (b d : ℕ) → Digit d ≡ byte_85_of b → d < 85
 digit_below b d q = grind (arith, nat_tests)
 
 -- three digits and one more fit

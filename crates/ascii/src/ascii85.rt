@@ -48,8 +48,11 @@ impl Ascii85 {
 fn byte_of(b: u8) -> Byte85
     ensures { result ≡ byte_85_of b }
 {
+    // most bytes are digits, and are told before all others
+    if matches!(b, b'!'..=b'u') {
+        return Byte85::Digit(b - b'!');
+    }
     match b {
-        b'!'..=b'u' => Byte85::Digit(b - b'!'),
         b'z' => Byte85::Zero,
         b'~' => Byte85::Tilde,
         _ if is_white(b) => Byte85::White,

@@ -133,7 +133,7 @@ binary_head head p = by (list_all hexadecimal head) p
 
 -- the first step
 module _ {H : Type 0} {m : Model H} (l : Lawful H m) {h x : H} (k : EexecState) where
-  begin_whole :
+  pub begin_whole :
       (head : List ℕ) (form : Form) (key : ℕ) (r : Own EexecState) (x' : H) → Reads m head_of h (Ok head) x → form ≡ form_of head → key ≡ key_behind form head k.key
       → Reads m (behind_of (still form) form key) x r x' → Reads m (begin_of k) h r x'
   begin_whole head form key r x' y p t z =

@@ -43,8 +43,13 @@ impl<K: Kind, S: Source> Layer<K, S> {
     fn front(&self) -> Result<u8, Ending>
         ensures { result ≡ front_of (K.holds self.now.kind).ready self.now.ended }
     {
-        // behind a fill nothing is ready only where it has ended
-        self.kind.first().ok_or(self.ended.unwrap_or(Ending::Clean))
+        // by cases, so that an ending is made only where it is the answer
+        match (self.kind.first(), self.ended) {
+            (Some(b), _) => Ok(b),
+            (None, Some(ending)) => Err(ending),
+            // behind a fill nothing is ready only where it has ended
+            (None, None) => Err(Ending::Clean),
+        }
     }
 }
 
@@ -62,6 +67,8 @@ impl<K: Kind, S: Source> Source for Layer<K, S> {
         self.front()
     }
 
+    // inlined, since it is asked for each byte, also by a filter above
+    #[inline]
     fn take(&mut self) -> Result<u8, Ending> {
         self.fill();
         let next = self.front();

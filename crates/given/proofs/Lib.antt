@@ -1,2 +1,3 @@
 pub mod Texts
+pub mod Pairs
 pub mod Worked

@@ -1,10 +1,12 @@
 -- What the texts of a case say.
-use Rattle.std.specs.Prelude.{ℕ, ◌==◌, ◌^◌, ◌&&◌, nat_lt, if◌then◌else◌, List, [], ◌∷◌, ◌++◌, length, map, codes, bytes_eq, Option, Some, None, option_map, option_and_then}
+use Rattle.std.specs.Prelude.{◌≡◌, ℕ, ◌==◌, ◌-◌, ◌%◌, ◌^◌, ◌&&◌, nat_lt, if◌then◌else◌, List, [], ◌∷◌, ◌++◌, length, take, map, codes, bytes_eq, Option, Some, None, is_some, MatchOption, option_map, option_and_then}
 use Rattle.std.specs.Option.{option_map_or}
 use Rattle.std.specs.Result.{result_ok}
 use Rattle.std.specs.List.{position_or_len, before_first, after_first, slice_split, repeat}
 use Rattle.std.specs.Str.{all_ascii_digits}
-use Rattle.std.specs.Str.Parse.{without_leading_plus, digits_value}
+use Rattle.std.specs.Str.Parse.{without_leading_plus, digits_value, IsParseIntError}
+use Rattle.std.specs.declared.num.IntErrorKind.{IntErrorKind}
+use Rattle.std.specs.declared.num.IntErrorKind.TheVariants.{Empty, InvalidDigit, PosOverflow, NegOverflow, Zero}
 use Rattle.hex.specs.Hex.{decode_of}
 use Rattle.hex.specs.declared.error.FromHexError.{FromHexError}
 use Rattle.hex.specs.declared.error.FromHexError.TheVariants as hex_error
@@ -13,7 +15,7 @@ use Rattle.source.specs.declared.ending.Damage.{Damage}
 use Rattle.source.specs.declared.ending.Ending.{Ending}
 use Rattle.source.specs.declared.ending.Ending.TheVariants.{Clean, Damaged}
 use Rattle.given.specs.declared.reading.ReadError.{ReadError}
-use Rattle.given.specs.declared.reading.ReadError.TheVariants.{NoEnding, NoBytes, OutOfMemory}
+use Rattle.given.specs.declared.reading.ReadError.TheVariants.{NoEnding, NoDamage, NoNumber, LoneDigit, NoDigit, OutOfMemory}
 
 -- the number that decimal digits write, if it is below a limit; none without a digit, and none if another byte stands there
 abbrev pub numeral_of : ℕ → List ℕ → Option ℕ
@@ -71,13 +73,67 @@ bytes_of text =
     if bytes_eq text (codes "-") then Some []
     else joined (map part_of (parts_of text))
 
--- what an error of the pairs of digits is here
+-- what is said of a text that is no number: that it is empty, where it is; else that a byte of it is no digit, where it is no
+-- numeral, or that it is too large, which the library does not pin to numerals
+abbrev pub WhyNoNumber : List ℕ → ReadError → Type 0
+WhyNoNumber text e = (kind : IntErrorKind) × (e ≡ NoNumber kind) × IsParseIntError 10 text (without_leading_plus text) PosOverflow kind
+
+-- why a damage's number and a depth name no ending: the number is looked at first
+abbrev pub WhyNoDamaged : List ℕ × List ℕ → ReadError → Type 0
+WhyNoDamaged p e = MatchOption (damage_of p.0) (e ≡ NoDamage) (λ damage. WhyNoNumber p.1 e)
+
+-- why a text names no ending
+abbrev pub WhyNoEnding : List ℕ → ReadError → Type 0
+WhyNoEnding text e = MatchOption (sides 47 text) (e ≡ NoEnding) (λ p. WhyNoDamaged p e)
+
+-- a text without the last of an odd number of bytes
+abbrev pub whole_pairs : List ℕ → List ℕ
+whole_pairs text = take (length text - length text % 2) text
+
+-- why a text is no pairs of digits: behind pairs that are good a byte stands alone, or else a pair has a byte that is no digit
+abbrev pub why_no_pairs : List ℕ → ReadError
+why_no_pairs text = if is_some (pairs_of (whole_pairs text)) then LoneDigit else NoDigit
+
+-- why a text and a number give no bytes: the number is looked at first
+abbrev pub WhyNotRepeated : List ℕ × List ℕ → ReadError → Type 0
+WhyNotRepeated p e = MatchOption (number_of (2 ^ 32) p.1) (WhyNoNumber p.1 e) (λ n. e ≡ why_no_pairs p.0)
+
+-- why a part gives no bytes
+abbrev pub WhyNoPart : List ℕ → ReadError → Type 0
+WhyNoPart part e = MatchOption (sides 120 part) (e ≡ why_no_pairs part) (λ p. WhyNotRepeated p e)
+
+-- why the first of these parts that gives no bytes gives none
+abbrev pub FirstBad : List (List ℕ) → ReadError → Type 0
+FirstBad [] e = ⊥
+FirstBad (part ∷ parts) e = MatchOption (part_of part) (WhyNoPart part e) (λ more. FirstBad parts e)
+
+-- why a text gives no bytes
+abbrev pub WhyNoBytes : List ℕ → ReadError → Type 0
+WhyNoBytes text e = FirstBad (parts_of text) e
+
+-- what was read, if it was, now stands behind what stood there before
+abbrev pub Adds : Option (List ℕ) → List ℕ → List ℕ → Type 0
+Adds more before after = option_map (λ back. before ++ back) more ≡ Some after
+
+-- what an error of one pair of digits is here
 abbrev pub why_no_hex : FromHexError → ReadError
 why_no_hex hex_error.OutOfMemory = OutOfMemory
-why_no_hex _ = NoBytes
+why_no_hex hex_error.OddLength = LoneDigit
+why_no_hex _ = NoDigit
+
+-- what the library prints where it reads no number
+abbrev pub number_text : IntErrorKind → List ℕ
+number_text Empty = codes "cannot parse integer from empty string"
+number_text InvalidDigit = codes "invalid digit found in string"
+number_text PosOverflow = codes "number too large to fit in target type"
+number_text NegOverflow = codes "number too small to fit in target type"
+number_text Zero = codes "number would be zero for non-zero type"
 
 -- an error as it is printed
 abbrev pub error_text : ReadError → List ℕ
 error_text NoEnding = codes "no ending"
-error_text NoBytes = codes "no bytes"
-error_text OutOfMemory = codes "out of memory"
+error_text NoDamage = codes "no damage"
+error_text (NoNumber kind) = number_text kind
+error_text LoneDigit = codes "a lone digit"
+error_text NoDigit = codes "no hexadecimal digit"
+error_text OutOfMemory = codes "memory allocation failed"

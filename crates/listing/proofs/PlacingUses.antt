@@ -1,6 +1,6 @@
-use Rattle.std.proofs.Common.{◌≡◌, ℕ, ◌+◌, ◌≤◌, List, [], ◌++◌, length, take, drop, refl, sym, ap, ap₂, ◌∙◌, arith}
+use Rattle.std.proofs.Common.{◌≡◌, ℕ, suc, ◌+◌, ◌<◌, ◌≤◌, List, [], ◌∷◌, ◌++◌, length, take, drop, set, refl, sym, ap, ap₂, ◌∙◌, subst, arith}
 use borrow.Rule.Slice.PartMut.{put_mid}
-use Rattle.std.proofs.lemmas.List.{append_assoc, length-append, length-drop, length-take-le, take-append-drop, take_at, drop_at, drop-drop}
+use Rattle.std.proofs.lemmas.List.{append_assoc, length-append, length-drop, length-take-le, take-append-drop, take_at, drop_at, drop-drop, set_split}
 use Rattle.listing.specs.Placing.{Placed}
 
 -- nothing
@@ -8,6 +8,12 @@ pub placed_none : (at : ℕ) (l : List ℕ) → at ≤ length l → Placed at []
 placed_none at l h =
     let e : at ≡ at + 0 = omega arith in
     record { within = omega arith; behind = e; holds = sym (take-append-drop at l) ∙ ap (λ k. take at l ++ drop k l) e }
+
+-- one byte
+pub placed_byte : (at b : ℕ) (l : List ℕ) → at < length l → Placed at (b ∷ []) l (at + 1) (set l at b)
+placed_byte at b l h =
+    let e : suc at ≡ at + 1 = omega arith in
+    record { within = omega arith; behind = refl; holds = set_split l at b h ∙ ap (λ k. take at l ++ b ∷ drop k l) e }
 
 -- bytes copied into a part of the line
 pub placed_part :
@@ -48,3 +54,7 @@ placed_then {at} {p} {q} {l} {m} {l₁} x y =
           ∙ (ap₂ (λ f b. f ++ (q ++ b)) t u
           ∙ (append_assoc (take at l) p _ ∙ ap (λ z. take at l ++ z) (sym (append_assoc p q _))));
     }
+
+-- the same piece and place, as other terms
+pub placed_as : {at : ℕ} {p q l : List ℕ} {m n : ℕ} {l₁ : List ℕ} → Placed at p l m l₁ → p ≡ q → m ≡ n → Placed at q l n l₁
+placed_as {at} {p} {q} {l} {m} {n} {l₁} x e f = subst (λ p. Placed at p l n l₁) e (subst (λ m. Placed at p l m l₁) f x)

@@ -3,6 +3,7 @@ ghost use Rattle.listing.specs.Placing.{Placed};
 
 use crate::refusal::Refusal;
 use crate::sink::Sink;
+use crate::strings::write_pairs;
 
 // Writes bytes into a lent area, each behind the one before.
 #[derive(Drop)]
@@ -25,6 +26,17 @@ impl Sink for Area<'_> {
         // by its range, since of a part lent by `get_mut` through the field the proof does not learn where it is
         let end = self.at + bytes.len();
         self.bytes[self.at..end].copy_from_slice(bytes);
+        self.at = end;
+        Ok(())
+    }
+
+    fn put_pairs(&mut self, bytes: &[u8]) -> Result<(), Refusal> {
+        // compared by the half, since the double may wrap
+        if (self.bytes.len() - self.at) / 2 < bytes.len() {
+            return Err(Refusal::Line);
+        }
+        let end = self.at + 2 * bytes.len();
+        write_pairs(&mut self.bytes[self.at..end], bytes);
         self.at = end;
         Ok(())
     }

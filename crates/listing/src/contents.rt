@@ -8,7 +8,6 @@ use crate::names::Escaped;
 use crate::refusal::Refusal;
 use crate::shape::Shape;
 use crate::sink::Sink;
-use crate::strings::Hexadecimal;
 use scanner::Kind;
 
 // How the content of a token is shown.
@@ -59,7 +58,7 @@ fn put_shown<S: Sink>(out: &mut S, form: Form, content: &[u8]) -> Result<(), Ref
         Form::Escaped => Escaped::put_each(out, content),
         Form::Decimal(value) => put_integer(out, value),
         Form::Plain => out.put_all(content),
-        Form::Hexadecimal => Hexadecimal::put_each(out, content),
+        Form::Hexadecimal => out.put_pairs(content),
     }
 }
 

@@ -13,5 +13,5 @@ mod strings;
 mod text;
 mod words;
 
-pub use lines::{ending_line, fault_line, token_line};
+pub use lines::{ending_line, fault_line, fault_line_at, token_line};
 pub use refusal::Refusal;

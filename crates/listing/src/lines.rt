@@ -1,5 +1,6 @@
 ghost use Rattle.std.specs.Prelude.{◌+◌, ◌*◌, ◌≤◌, length, IsOk};
-ghost use Rattle.listing.specs.Lines.{Prints, token_text, ending_text, flaw_text};
+ghost use Rattle.source.specs.Numbers.{fault_number};
+ghost use Rattle.listing.specs.Lines.{Prints, token_text, ending_text, flaw_text, fault_text};
 ghost use Rattle.listing.specs.Examples.{Examples};
 ghost use Rattle.listing.specs.Laws.{Decimals, ToldApart};
 
@@ -32,7 +33,11 @@ pub fn token_line(
         None => Text::End,
         Some(word) => Text::Token(level, word, form, content),
     };
-    text.print(line)
+    // a line that may not fit is counted first, so that the area stays as it was if it does not
+    if line.len() < 32 || content.len() > (line.len() - 32) / 4 {
+        text.count(line.len())?;
+    }
+    text.write(line)
 }
 
 // Prints the line of an ending: a clean end, or a damage with its number and its depth.
@@ -53,4 +58,14 @@ pub fn fault_line(fault: Fault, line: &mut [u8]) -> Result<usize, Refusal>
     ensures decimals { Decimals }
 {
     Text::Fault(fault.number(), fault.depth()).print(line)
+}
+
+// Prints the line of a fault's number with a depth that the caller gives, whatever the depth of the fault is. An area of 32
+// bytes is enough.
+pub fn fault_line_at(fault: Fault, depth: u8, line: &mut [u8]) -> Result<usize, Refusal>
+    ensures prints { Prints (fault_text (fault_number fault) depth) line.old result line.new }
+    ensures enough { 32 ≤ length line.old → IsOk result }
+    ensures decimals { Decimals }
+{
+    Text::Fault(fault.number(), depth).print(line)
 }

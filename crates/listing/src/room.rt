@@ -16,4 +16,13 @@ impl Sink for Room {
         self.0 = self.0.checked_sub(bytes.len()).ok_or(Refusal::Line)?;
         Ok(())
     }
+
+    fn put_pairs(&mut self, bytes: &[u8]) -> Result<(), Refusal> {
+        // compared by the half, since the double may wrap
+        if self.0 / 2 < bytes.len() {
+            return Err(Refusal::Line);
+        }
+        self.0 -= 2 * bytes.len();
+        Ok(())
+    }
 }

@@ -5,7 +5,7 @@ ghost use Rattle.listing.specs.Puts.{Puts};
 use crate::refusal::Refusal;
 use crate::sink::Sink;
 
-// How a content is shown whose bytes are shown one by one.
+// How a content is put byte by byte, as a name is.
 pub(crate) trait Shape {
     // what shows a byte
     ghost shows: { ℕ → List ℕ };

@@ -1,5 +1,6 @@
 ghost use Rattle.std.specs.Prelude.{ℕ, List, [], ◌∷◌};
 ghost use Rattle.listing.specs.Puts.{Puts};
+ghost use Rattle.listing.specs.Shown.{hexadecimal};
 
 use crate::refusal::Refusal;
 
@@ -13,6 +14,10 @@ pub(crate) trait Sink {
 
     fn put_all(&mut self, bytes: &[u8]) -> Result<(), Refusal>
         ensures { Puts room takes self.old bytes.now result self.new };
+
+    // Puts each byte as two hexadecimal digits, for all of which room is asked once.
+    fn put_pairs(&mut self, bytes: &[u8]) -> Result<(), Refusal>
+        ensures { Puts room takes self.old (hexadecimal bytes.now) result self.new };
 
     final fn put(&mut self, b: u8) -> Result<(), Refusal>
         ensures { Puts room takes self.old (b ∷ []) result self.new }

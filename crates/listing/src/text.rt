@@ -1,6 +1,6 @@
-ghost use Rattle.std.specs.Prelude.{Some};
+ghost use Rattle.std.specs.Prelude.{◌≤◌, length, MatchResult, Some};
 ghost use Rattle.listing.specs.Lines.{Prints, end_text, fault_text, token_by};
-ghost use Rattle.listing.specs.Puts.{Puts};
+ghost use Rattle.listing.specs.Puts.{Full, Puts};
 ghost use Rattle.listing.specs.Shown.{shown_by};
 ghost use Rattle.listing.specs.Texts.{text_of};
 
@@ -70,15 +70,32 @@ impl Text<'_> {
         }
     }
 
+    // Counts the line that says it: refused where it does not fit into so much room.
+    #[inline(always)]
+    pub(crate) fn count(self, room: usize) -> Result<(), Refusal>
+        ensures { MatchResult result (λ _. length (text_of self.entry) ≤ room) (Full room (text_of self.entry)) }
+    {
+        self.put(&mut Room(room))
+    }
+
+    // Writes the line that says it, which is known to fit.
+    #[inline(always)]
+    pub(crate) fn write(self, line: &mut [u8]) -> Result<usize, Refusal>
+        requires { length (text_of self) ≤ length line.old }
+        ensures { Prints (text_of self.entry) line.old result line.new }
+    {
+        let mut area = Area { bytes: line, at: 0 };
+        self.put(&mut area)?;
+        Ok(area.at)
+    }
+
     // Prints the line that says it. It is counted first, so that one that does not fit leaves the area as it was. Inlined,
     // so that what a caller knows of the line is not asked again in each of the two walks.
     #[inline(always)]
     pub(crate) fn print(self, line: &mut [u8]) -> Result<usize, Refusal>
         ensures { Prints (text_of self.entry) line.old result line.new }
     {
-        self.put(&mut Room(line.len()))?;
-        let mut area = Area { bytes: line, at: 0 };
-        self.put(&mut area)?;
-        Ok(area.at)
+        self.count(line.len())?;
+        self.write(line)
     }
 }

@@ -110,7 +110,7 @@ module _
   hexed_put_full v f new' q same p =
       rw (p.1, p.2) (full (sym (cond-true (eqb (length (take n new)) (length old)) _ _ (eq-eqb _ _ (count ∙ all same p.0))) ∙ stopped (turn.Put v) q))
 
-  hexed_last_full : (v : ℕ) → turn.Last v ≡ hex_turn_of pending (hex_byte_of b) → n ≡ length old → Scans m hex_of h old (Err (failure.Fault Limit n)) x' new
+  pub hexed_last_full : (v : ℕ) → turn.Last v ≡ hex_turn_of pending (hex_byte_of b) → n ≡ length old → Scans m hex_of h old (Err (failure.Fault Limit n)) x' new
   hexed_last_full v q e = full (sym (cond-true (eqb (length (take n new)) (length old)) _ _ (eq-eqb _ _ (count ∙ e))) ∙ stopped (turn.Last v) q)
 
   hexed_last_put : (v : ℕ) → turn.Last v ≡ hex_turn_of pending (hex_byte_of b) → n < length new → (n ≡ length old → ⊥) → Scans m hex_of h old (Ok (n + 1)) x' (set new n v)

@@ -5,7 +5,8 @@ ghost use Rattle.source.specs.Bytes.{white, digit_of};
 pub fn is_white(b: u8) -> bool
     ensures { result ≡ white b }
 {
-    matches!(b, 0 | 9 | 10 | 12 | 13 | 32)
+    // most bytes are none, and are told by the first comparison
+    b <= 32 && matches!(b, 0 | 9 | 10 | 12 | 13 | 32)
 }
 
 // The value of a digit in a base, letters of either case being 10 to 35; None for any other byte, and for a digit that is

@@ -1,35 +1,34 @@
-use Rattle.std.proofs.Common.{◌≡◌, ℕ, ◌<◌, ◌≤◌, Bool, true, false, cond, eqb, ◌&&◌, List, [], ◌∷◌, length, take, refl, arith}
-use lib.Pointwise.{pointwise}
-use Rattle.subfile.specs.declared.subfile.Match.{Match}
+use Rattle.std.proofs.Common.{◌≡◌, ℕ, ◌+◌, ◌<◌, ◌≤◌, cond, eqb, List, length, get_or, drop, sym, ap, ◌∙◌, ap₂, arith}
+use Rattle.std.proofs.lemmas.List.{drop_all, drop_more}
+use Rattle.std.proofs.lemmas.Bool.{eq-eqb, ne_eqb}
 use Rattle.subfile.specs.declared.subfile.Match.TheVariants.{Starts, Equals, Fails}
 use Rattle.subfile.specs.SubFile.{judged}
 
--- whether a mark begins with the bytes held
-abbrev pub begun : List ℕ → List ℕ → Bool
-begun mark held = pointwise eqb (take (length held) mark) held
+-- the first i bytes agree, so that what stands behind them decides
+abbrev pub Agree : List ℕ → List ℕ → ℕ → Type 0
+Agree mark held i = (i ≤ length mark) × (judged (drop i mark) (drop i held) ≡ judged mark held)
 
-pub judge_fails : (mark held : List ℕ) → begun mark held ≡ false → Fails ≡ judged mark held
-judge_fails [] [] e = cc
-judge_fails [] (x ∷ held) e = refl
-judge_fails (m ∷ mark) [] e = cc
-judge_fails (m ∷ mark) (x ∷ held) e = by (eqb m x) e (judge_fails mark held)
-  where
-    by : (t : Bool) → (t && begun mark held) ≡ false → (begun mark held ≡ false → Fails ≡ judged mark held) → Fails ≡ cond t (judged mark held) Fails
-    by true e f = f e
-    by false e f = refl
+module _ (mark held : List ℕ) (i : ℕ) (k : Agree mark held i) where
+  judge_more :
+      i < length mark → i < length held
+      → cond (eqb (get_or mark i 0) (get_or held i 0)) (judged (drop (i + 1) mark) (drop (i + 1) held)) Fails ≡ judged mark held
+  judge_more p q = sym (ap₂ judged (drop_more mark i 0 p) (drop_more held i 0 q)) ∙ k.1
 
--- how the bytes behind the first stand to the mark, where the first agrees
-first_same : (t : Bool) (r : Match) (mark held : List ℕ) → (t && begun mark held) ≡ true → (begun mark held ≡ true → r ≡ judged mark held) → r ≡ cond t (judged mark held) Fails
-first_same true r mark held e f = f e
-first_same false r mark held e f = cc
+  pub judge_same : i < length mark → i < length held → get_or mark i 0 ≡ get_or held i 0 → Agree mark held (i + 1)
+  judge_same p q e = (
+    omega arith,
+    sym (ap (λ t. cond t (judged (drop (i + 1) mark) (drop (i + 1) held)) Fails) (eq-eqb (get_or mark i 0) (get_or held i 0) e)) ∙ judge_more p q,
+  )
 
-pub judge_equals : (mark held : List ℕ) → begun mark held ≡ true → length mark ≤ length held → Equals ≡ judged mark held
-judge_equals [] [] e h = refl
-judge_equals [] (x ∷ held) e h = cc
-judge_equals (m ∷ mark) [] e h = let no_way : ⊥ = omega arith in absurd no_way
-judge_equals (m ∷ mark) (x ∷ held) e h = first_same (eqb m x) Equals mark held e (λ e. judge_equals mark held e (omega arith))
+  pub judge_other : i < length mark → i < length held → (get_or mark i 0 ≡ get_or held i 0 → ⊥) → Fails ≡ judged mark held
+  judge_other p q e =
+      sym (ap (λ t. cond t (judged (drop (i + 1) mark) (drop (i + 1) held)) Fails) (ne_eqb (get_or mark i 0) (get_or held i 0) e)) ∙ judge_more p q
 
-pub judge_starts : (mark held : List ℕ) → begun mark held ≡ true → length held < length mark → Starts ≡ judged mark held
-judge_starts [] held e h = let no_way : ⊥ = omega arith in absurd no_way
-judge_starts (m ∷ mark) [] e h = refl
-judge_starts (m ∷ mark) (x ∷ held) e h = first_same (eqb m x) Starts mark held e (λ e. judge_starts mark held e (omega arith))
+  pub judge_longer : length mark ≤ i → i < length held → Fails ≡ judged mark held
+  judge_longer p q = sym (ap₂ judged (drop_all i mark p) (drop_more held i 0 q)) ∙ k.1
+
+  pub judge_starts : i < length mark → length held ≤ i → Starts ≡ judged mark held
+  judge_starts p q = sym (ap₂ judged (drop_more mark i 0 p) (drop_all i held q)) ∙ k.1
+
+  pub judge_equals : length mark ≤ i → length held ≤ i → Equals ≡ judged mark held
+  judge_equals p q = sym (ap₂ judged (drop_all i mark p) (drop_all i held q)) ∙ k.1

@@ -34,10 +34,18 @@ pub struct SubFile {
 fn judge(mark: &[u8], held: &[u8]) -> Match
     ensures { result ≡ judged mark.now held.now }
 {
-    match mark.strip_prefix(held) {
-        None => Match::Fails,
-        Some([]) => Match::Equals,
-        Some(_) => Match::Starts,
+    for (i, h) in held.iter().enumerate() {
+        let Some(m) = mark.get(i) else {
+            return Match::Fails
+        };
+        if m != h {
+            return Match::Fails;
+        }
+    }
+    if held.len() < mark.len() {
+        Match::Starts
+    } else {
+        Match::Equals
     }
 }
 

@@ -48,7 +48,8 @@ impl Window {
     pub(crate) fn first(&self) -> Option<u8>
         ensures { result ≡ head_of (ready_of self.now) }
     {
-        self.bytes[self.from..self.ready].first().copied()
+        // by one comparison: a part of the array and its first element take two
+        (self.from < self.ready).then(|| self.bytes[self.from])
     }
 
     // Hands the first ready byte up; where none is ready nothing changes.

@@ -20,5 +20,5 @@ pub(crate) fn dump_input(heap: Global, input: &[u8]) -> Result<Vec<u8>, AllocErr
     if input.len() > LIMIT {
         return Vec::from_slice(heap, b"too large\n");
     }
-    Lister::new(heap, Memory::new(input))?.list_all()
+    Lister::new(heap, Memory::new(input))?.list_all(Vec::new(heap))
 }

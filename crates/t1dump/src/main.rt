@@ -10,7 +10,8 @@ use std::io::{Read, Write};
 
 // Reads standard input up to its end, or up to one byte more than the most that is listed.
 fn read_input(rt: &HostRuntime) -> anyhow::Result<Vec<u8>> {
-    let mut bytes = Vec::new(rt.alloc());
+    // room for all of it and for one byte more, so that it does not grow
+    let mut bytes = Vec::with_capacity(rt.alloc(), LIMIT + 2)?;
     rt.stdin().take(LIMIT as u64 + 1).read_to_end(&mut bytes)?;
     Ok(bytes)
 }
